@@ -1,0 +1,9 @@
+pub mod Lists
+pub mod Bytes
+pub mod BoolLaws
+pub mod SpliceLaws
+pub mod WordLaws
+pub mod EveryLaws
+pub mod PartLaws
+pub mod EveryMore
+pub mod FirstLaws
