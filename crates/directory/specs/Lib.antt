@@ -1,0 +1,4 @@
+pub mod Directory
+pub mod SpotLaws
+pub mod NameLaws
+pub mod DirectoryLaws

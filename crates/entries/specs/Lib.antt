@@ -1,0 +1,5 @@
+pub mod Entries
+pub mod PassLaws
+pub mod CodecLaws
+pub mod EntryLaws
+pub mod ChangeLaws

@@ -1,0 +1,354 @@
+// Directory entries of 128 bytes: a stamp, a name, and two versions of a file.
+ghost use mathlib.Core.Path.{_≡_};
+ghost use mathlib.Core.Bool.{cond};
+ghost use Prim.Native.Nat.{_+_, _≤_, min};
+ghost use lib.ListN.{length, take, drop};
+ghost use Rattle.words.specs.Lists.{every, eqList, splice, pad};
+ghost use Rattle.words.specs.Bytes.{wordAt};
+ghost use Rattle.sectors.specs.Sectors.{sec};
+ghost use Rattle.counts.specs.Stamps.{tableIn, becomesOld};
+ghost use Rattle.counts.specs.TableLaws.{InLimits, LaidOut};
+ghost use Rattle.entries.specs.Entries.{versionOf, versionBytes, entryOf, entryBytes, shownBytes, shown, isAbsent, goodByte, goodName, nameOf, nameOk, sectorsFor, runOk, versionOk, entryOk};
+ghost use Rattle.entries.specs.EntryLaws.{changedAs};
+use counts::Geo;
+use counts::Stamp;
+use counts::Standing;
+use counts::View;
+use sectors::Sector;
+
+// Where a file's content lies, and how long it is.
+pub struct Run {
+    pub start: Sector,
+    pub sectors: u32,
+    pub bytes: u32,
+}
+
+pub enum Version {
+    Absent,
+    Present(Run),
+}
+
+pub struct Entry {
+    pub stamp: Stamp,
+    pub size: u32,
+    pub name: [u8; 32],
+    pub new: Version,
+    pub old: Version,
+}
+
+// ---- the codec
+
+// The version that 16 bytes are.
+pub fn version_of(v: &[u8]) -> Version
+    requires { ⌜ length (now v) ≡ 16 ⌝ }
+    ensures { λ r. ⌜ r ≡ versionOf (now (v .entry)) ⌝ }
+{
+    let state = words::word_at(v, 0);
+    if state == 0 {
+        return Version::Absent;
+    }
+    let start = words::word_at(v, 4);
+    let sectors = words::word_at(v, 8);
+    let bytes = words::word_at(v, 12);
+    Version::Present(Run {
+        start: Sector(start),
+        sectors,
+        bytes,
+    })
+}
+
+// Stores the four words of a version from `at` on.
+pub fn put_version(s: &mut [u8], at: usize, v: Version)
+    requires { ⌜ at + 16 ≤ length (now s) ⌝ }
+    ensures { λ _. ⌜ now (s .exit) ≡ splice (now (s .entry)) at (versionBytes v) ⌝ }
+{
+    match v {
+        Version::Absent => {
+            words::put_word(s, at, 0);
+            words::put_word(s, at + 4, 0);
+            words::put_word(s, at + 8, 0);
+            words::put_word(s, at + 12, 0);
+        }
+        Version::Present(r) => {
+            words::put_word(s, at, 1);
+            words::put_word(s, at + 4, r.start.0);
+            words::put_word(s, at + 8, r.sectors);
+            words::put_word(s, at + 12, r.bytes);
+        }
+    }
+}
+
+// The 32 bytes from `at` on.
+pub fn name_at(s: &[u8], at: usize) -> [u8; 32]
+    requires { ⌜ at + 32 ≤ length (now s) ⌝ }
+    ensures { λ r. ⌜ r ≡ take 32 (drop at (now (s .entry))) ⌝ }
+{
+    let mut name = [0u8; 32];
+    let end = at + 32;
+    words::fill(&mut name, &s[at..end]);
+    name
+}
+
+// A name with zeros behind it.
+pub fn padded(name: &[u8]) -> [u8; 32]
+    requires { ⌜ length (now name) ≤ 32 ⌝ }
+    ensures { λ r. ⌜ r ≡ pad 32 (now (name .entry)) ⌝ }
+{
+    let mut bytes = [0u8; 32];
+    words::put_bytes(&mut bytes, 0, name);
+    bytes
+}
+
+// The entry that 128 bytes are.
+pub fn entry_of(p: &[u8]) -> Entry
+    requires { ⌜ length (now p) ≡ 128 ⌝ }
+    ensures { λ r. ⌜ r ≡ entryOf (now (p .entry)) ⌝ }
+{
+    let stamp = counts::stamp_of(p);
+    let size = words::word_at(p, 8);
+    let name = name_at(p, 12);
+    let new = version_of(&p[44..60]);
+    let old = version_of(&p[60..76]);
+    Entry {
+        stamp,
+        size,
+        name,
+        new,
+        old,
+    }
+}
+
+// The entry whose 128 bytes stand from `at` on.
+pub fn entry_at(s: &[u8], at: usize) -> Entry
+    requires { ⌜ at + 128 ≤ length (now s) ⌝ }
+    ensures { λ r. ⌜ r ≡ entryOf (take 128 (drop at (now (s .entry)))) ⌝ }
+{
+    let end = at + 128;
+    entry_of(&s[at..end])
+}
+
+// Writes an entry over 128 bytes.
+pub fn fill_entry(p: &mut [u8], e: Entry)
+    requires { ⌜ length (now p) ≡ 128 ⌝ }
+    ensures { λ _. ⌜ now (p .exit) ≡ entryBytes e ⌝ }
+{
+    words::put_word(p, 0, e.stamp.cc.0);
+    words::put_word(p, 4, e.stamp.txc.0);
+    words::put_word(p, 8, e.size);
+    let name = e.name;
+    words::put_bytes(p, 12, &name);
+    let new = e.new;
+    put_version(p, 44, new);
+    let old = e.old;
+    put_version(p, 60, old);
+    let zeros = [0u8; 52];
+    words::put_bytes(p, 76, &zeros);
+}
+
+// Writes an entry over the 128 bytes from `at` on.
+pub fn put_entry(s: &mut [u8], at: usize, e: Entry)
+    requires { ⌜ at + 128 ≤ length (now s) ⌝ }
+    ensures { λ _. ⌜ now (s .exit) ≡ splice (now (s .entry)) at (entryBytes e) ⌝ }
+{
+    let end = at + 128;
+    fill_entry(&mut s[at..end], e)
+}
+
+// ---- changing an entry
+
+// What is the old version after a change: if alive, the new version becomes the old one.
+pub fn becomes_old(st: Standing, new: Version, old: Version) -> Version
+    ensures { λ r. ⌜ r ≡ becomesOld st new old ⌝ }
+{
+    match st {
+        Standing::Own => old,
+        Standing::Alive => new,
+        Standing::Dead => old,
+    }
+}
+
+// An entry with a name, a new version and the session's own stamp, by how its stamp stood.
+pub fn changed(st: Standing, own: Stamp, e: Entry, name: &[u8], v: Version) -> Entry
+    requires { ⌜ length (now name) ≤ 32 ⌝ }
+    ensures { λ r. ⌜ r ≡ changedAs st own e (now (name .entry)) v ⌝ }
+{
+    let size = name.len() as u32;
+    let bytes = padded(name);
+    let new = e.new;
+    let old = e.old;
+    let kept = becomes_old(st, new, old);
+    Entry {
+        stamp: own,
+        size,
+        name: bytes,
+        new: v,
+        old: kept,
+    }
+}
+
+// ---- what an entry shows
+
+// Where the version that an entry shows stands in it: the new one or the old one.
+fn new_or_old(live: bool) -> usize
+    ensures { λ r. ⌜ (r ≡ cond live 44 60) × (r ≤ 60) ⌝ }
+{
+    if live { 44 } else { 60 }
+}
+
+// The version that an entry shows in a view.
+pub fn shown(card: &[u8], g: Geo, v: View, p: &[u8]) -> Version
+    requires { ⌜ LaidOut g (now card) × (length (now p) ≡ 128) ⌝ }
+    ensures { λ r. ⌜ r ≡ shown (tableIn g v (sec (now (card .entry)))) (now (p .entry)) ⌝ }
+{
+    let s = counts::stamp_of(p);
+    let at = new_or_old(counts::alive(card, g, v, s));
+    let end = at + 16;
+    version_of(&p[at..end])
+}
+
+// Whether a version is absent.
+pub fn is_absent(v: Version) -> bool
+    ensures { λ r. ⌜ r ≡ isAbsent v ⌝ }
+{
+    match v {
+        Version::Absent => true,
+        Version::Present(_) => false,
+    }
+}
+
+// ---- names
+
+// Whether every byte may stand in a name.
+pub fn good_bytes(s: &[u8]) -> bool
+    ensures { λ r. ⌜ r ≡ every goodByte (now (s .entry)) ⌝ }
+{
+    let mut i = 0;
+    while i < s.len() {
+        let ok = (33 <= s[i]) & (s[i] <= 126);
+        if !ok {
+            return false;
+        }
+        i += 1;
+    }
+    true
+}
+
+// Whether a name has 1 to 32 bytes, each 33 to 126.
+pub fn good_name(n: &[u8]) -> bool
+    ensures { λ r. ⌜ r ≡ goodName (now (n .entry)) ⌝ }
+{
+    (1 <= n.len()) & (n.len() <= 32) & good_bytes(n)
+}
+
+// Whether the first n of an entry's name bytes are a good name and the others are 0.
+pub fn name_ok(n: u32, b: &[u8]) -> bool
+    requires { ⌜ length (now b) ≡ 32 ⌝ }
+    ensures { λ r. ⌜ r ≡ nameOk n (now (b .entry)) ⌝ }
+{
+    if n < 1 {
+        return false;
+    }
+    if 32 < n {
+        return false;
+    }
+    let k = n as usize;
+    good_bytes(&b[0..k]) & words::zeros(&b[k..])
+}
+
+// Where the name of an entry ends in it.
+fn name_end(p: &[u8]) -> usize
+    requires { ⌜ length (now p) ≡ 128 ⌝ }
+    ensures { λ r. ⌜ r ≡ 12 + min (wordAt (now (p .entry)) 8) 32 ⌝ }
+{
+    let n = words::word_at(p, 8);
+    if n < 32 {
+        return 12 + (n as usize);
+    }
+    44
+}
+
+// Whether two entries have the same name.
+pub fn same_name(p: &[u8], q: &[u8]) -> bool
+    requires { ⌜ (length (now p) ≡ 128) × (length (now q) ≡ 128) ⌝ }
+    ensures { λ r. ⌜ r ≡ eqList (nameOf (now (p .entry))) (nameOf (now (q .entry))) ⌝ }
+{
+    let a = name_end(p);
+    let b = name_end(q);
+    words::same(&p[12..a], &q[12..b])
+}
+
+// Whether an entry has that name.
+pub fn has_name(n: &[u8], p: &[u8]) -> bool
+    requires { ⌜ length (now p) ≡ 128 ⌝ }
+    ensures { λ r. ⌜ r ≡ eqList (now (n .entry)) (nameOf (now (p .entry))) ⌝ }
+{
+    let b = name_end(p);
+    words::same(n, &p[12..b])
+}
+
+// ---- well formed
+
+// How many sectors some bytes take.
+pub fn sectors_for(bytes: u32) -> u32
+    ensures { λ r. ⌜ r ≡ sectorsFor bytes ⌝ }
+{
+    ((bytes as u64 + 511) / 512) as u32
+}
+
+// Whether a run is as long as its bytes want, and lies inside the data.
+pub fn run_ok(g: Geo, r: Run) -> bool
+    requires { ⌜ InLimits g ⌝ }
+    ensures { λ ok. ⌜ ok ≡ runOk g r ⌝ }
+{
+    let whole = r.sectors == sectors_for(r.bytes);
+    if r.sectors == 0 {
+        return whole & (r.start.0 == 0);
+    }
+    let end = r.start.0 as u64 + r.sectors as u64;
+    whole & ((g.t + 4 + g.d <= r.start.0) & (end <= g.s as u64))
+}
+
+// Whether the 16 bytes of a version are well formed.
+pub fn version_ok(g: Geo, v: &[u8]) -> bool
+    requires { ⌜ InLimits g × (length (now v) ≡ 16) ⌝ }
+    ensures { λ r. ⌜ r ≡ versionOk g (now (v .entry)) ⌝ }
+{
+    let state = words::word_at(v, 0);
+    let start = words::word_at(v, 4);
+    let sectors = words::word_at(v, 8);
+    let bytes = words::word_at(v, 12);
+    if state == 0 {
+        return (start == 0) & (sectors == 0) & (bytes == 0);
+    }
+    let run = Run {
+        start: Sector(start),
+        sectors,
+        bytes,
+    };
+    (state == 1) & run_ok(g, run)
+}
+
+// Whether the version that an entry shows in a view is well formed.
+fn shown_ok(card: &[u8], g: Geo, v: View, p: &[u8]) -> bool
+    requires { ⌜ LaidOut g (now card) × (length (now p) ≡ 128) ⌝ }
+    ensures { λ r. ⌜ r ≡ versionOk g (shownBytes (tableIn g v (sec (now (card .entry)))) (now (p .entry))) ⌝ }
+{
+    let s = counts::stamp_of(p);
+    let at = new_or_old(counts::alive(card, g, v, s));
+    let end = at + 16;
+    version_ok(g, &p[at..end])
+}
+
+// Whether an entry passes in a view.
+pub fn entry_ok(card: &[u8], g: Geo, v: View, bound: u32, p: &[u8]) -> bool
+    requires { ⌜ LaidOut g (now card) × (length (now p) ≡ 128) ⌝ }
+    ensures { λ r. ⌜ r ≡ entryOk g bound (tableIn g v (sec (now (card .entry)))) (now (p .entry)) ⌝ }
+{
+    let s = counts::stamp_of(p);
+    let below = counts::dead_below(card, g, v, bound, s);
+    let rest = words::zeros(&p[76..]);
+    let version = shown_ok(card, g, v, p);
+    let absent = is_absent(shown(card, g, v, p));
+    let name = name_ok(words::word_at(p, 8), &p[12..44]);
+    counts::stamp_ok(g, s) & (below & rest & version & (absent | name))
+}
