@@ -1,0 +1,12 @@
+pub mod Bits
+pub mod BitLaws
+pub mod RunLaws
+pub mod Runs
+pub mod Scan
+pub mod LowestLaws
+pub mod Index
+pub mod PassLaws
+pub mod IndexLaws
+pub mod PageLaws
+pub mod ChangeLaws
+pub mod FrameLaws
