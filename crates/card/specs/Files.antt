@@ -1,0 +1,85 @@
+-- The files that a view shows, the sectors they hold, and their contents. Assumes nothing.
+use mathlib.Core.Bool.{Bool}
+use mathlib.Core.List.{List, [], _∷_, _++_}
+use Prim.Native.Nat.{ℕ, zero, suc, _+_, _*_}
+use lib.ListN.{length, take, drop, getD, replicate}
+use lib.Dec.{leb, ltb}
+use Rattle.sums.specs.Sums.{bit, inRun}
+use Rattle.words.specs.Lists.{firstAt, splice}
+use Rattle.words.specs.Bytes.{wordAt}
+use Rattle.sectors.specs.Sectors.{Cells, sec}
+use Rattle.counts.specs.declared.Geo.{Geo}
+use Rattle.entries.specs.declared.Run.{Run}
+use Rattle.entries.specs.declared.Version.{Version}
+use Rattle.entries.specs.declared.Version.the-variants.{Absent, Present}
+use Rattle.entries.specs.Entries.{shown, nameBytes, goodName}
+use Rattle.directory.specs.Directory.{entriesOf, named}
+use Rattle.card.specs.declared.Line.{Line}
+use Rattle.card.specs.declared.Lined.{Lined}
+use Rattle.card.specs.Plan.{Plan, guard, need, ended, doIt, refused, done, Got, Listed}
+
+-- the line of an entry that shows a version, where it is present
+unfoldable pub consFile : List ℕ → Version → List Line → List Line
+consFile p Absent r = r
+consFile p (Present run) r = record { size = wordAt p 8; name = nameBytes p; run = run } ∷ r
+
+-- the files of a view, "one line a file, in entry order"
+unfoldable pub filesOf : List ℕ → List (List ℕ) → List Line
+filesOf tab [] = []
+filesOf tab (p ∷ ps) = consFile p (shown tab p) (filesOf tab ps)
+
+-- how many of the files hold sector n: "each in one file"
+unfoldable pub cover : List Line → ℕ → ℕ
+cover [] n = 0
+cover (f ∷ fs) n = inRun (f .run .start .0) (f .run .sectors) n + cover fs n
+
+-- the sectors of all files
+unfoldable pub sectorsOf : List Line → ℕ
+sectorsOf [] = 0
+sectorsOf (f ∷ fs) = f .run .sectors + sectorsOf fs
+
+-- the content of a run
+unfoldable pub contentOf : List ℕ → Run → List ℕ
+contentOf img r = take (r .bytes) (drop (512 * r .start .0) img)
+
+-- the run of a version; an absent one has none
+unfoldable pub runOf : Version → Run
+runOf Absent = record { start = record { 0 = 0 }; sectors = 0; bytes = 0 }
+runOf (Present r) = r
+
+-- ---- get and list over one view: reading a card and a session's present view share them
+
+-- the run that entry j shows
+unfoldable pub runAt : Geo → List ℕ → List ℕ → ℕ → Run
+runAt g tab img j = runOf (shown tab (getD (entriesOf g (sec img)) j []))
+
+-- "get .. 5, 6, 10"
+unfoldable pub getPlan : Geo → List ℕ → List ℕ → List ℕ → List ℕ → Plan
+getPlan g tab img n out =
+    guard 5 (goodName n) (need 6 (firstAt (named tab tab n) 0 (entriesOf g (sec img)))
+    (λ j. guard 10 (leb (runAt g tab img j .bytes) (length out)) (doIt j 0)))
+
+-- "Get fills the first bytes of the output and leaves the rest."
+unfoldable pub getEnd : Geo → List ℕ → List ℕ → List ℕ → Plan → Got
+getEnd g tab img out p =
+    ended p (λ k. record { answer = refused k; out = out })
+    (λ j a. record { answer = done (runAt g tab img j .bytes); out = splice out 0 (contentOf img (runAt g tab img j)) })
+
+-- "list .. 10"
+unfoldable pub listPlan : List Line → List Line → Plan
+listPlan files lines = guard 10 (leb (length files) (length lines)) (doIt 0 0)
+
+-- "List fills a lent table of lines, one line a file, in entry order ..; later lines stay."
+unfoldable pub listEnd : List Line → List Line → Plan → Listed
+listEnd files lines p =
+    ended p (λ k. record { answer = refused k; lines = lines }) (λ j a. record { answer = done (length files); lines = files ++ drop (length files) lines })
+
+-- a line where there is no file
+unfoldable pub noLine : Line
+noLine = record { size = 0; name = replicate 32 0; run = runOf Absent }
+
+-- the line at a position: one line of the table that list fills, with count 1, or none, with count 0
+unfoldable pub lineEnd : List Line → ℕ → Plan → Lined
+lineEnd files i p =
+    ended p (λ k. record { answer = refused k; line = noLine })
+    (λ j a. record { answer = done (bit (ltb i (length files))); line = getD files i noLine })

@@ -1,0 +1,33 @@
+-- Plans: what one that goes through says of its tests, and that a refusal's number is not 0. Assumes nothing.
+use mathlib.Core.Path.{_≡_, refl}
+use mathlib.Core.Bool.{Bool, true, false}
+use Prim.Native.Nat.{ℕ, suc}
+use Rattle.words.specs.declared.Found.{Found}
+use Rattle.words.specs.declared.Found.the-variants.{At, Nowhere}
+use Rattle.words.specs.BoolLaws.{never}
+use Rattle.card.specs.Plan.{Plan, refuse, doIt, guard, need}
+
+pub guard-inv : (k : ℕ) (b : Bool) (p : Plan) {j a : ℕ} → guard k b p ≡ doIt j a → (b ≡ true) × (p ≡ doIt j a)
+unfolding guard
+guard-inv k true p h = (refl, h)
+guard-inv k false p {j} {a} h = never (cc)
+
+pub need-inv : (k : ℕ) (o : Found) (f : ℕ → Plan) {j a : ℕ} → need k o f ≡ doIt j a → (i : ℕ) × (o ≡ At i) × (f i ≡ doIt j a)
+unfolding need
+need-inv k Nowhere f {j} {a} h = never (cc)
+need-inv k (At i) f h = (i, refl, h)
+
+-- a plan that refuses by a number above 0, or goes through
+pub data Num : Plan → Type 0 where
+  no! : (k : ℕ) → Num (refuse (suc k))
+  go! : (j a : ℕ) → Num (doIt j a)
+
+pub guard-num : (k : ℕ) (b : Bool) {p : Plan} → Num p → Num (guard (suc k) b p)
+unfolding guard
+guard-num k true h = h
+guard-num k false h = no! k
+
+pub need-num : (k : ℕ) (o : Found) {f : ℕ → Plan} → ((i : ℕ) → Num (f i)) → Num (need (suc k) o f)
+unfolding need
+need-num k Nowhere h = no! k
+need-num k (At i) h = h i

@@ -1,0 +1,102 @@
+-- "free sectors, sectors of present files and F add up to S": one law of a view that passes. Assumes nothing.
+use mathlib.Core.Path.{_≡_, refl, sym, ap, _∙_}
+use mathlib.Core.Bool.{true}
+use mathlib.Core.List.{List, [], _∷_}
+use mathlib.Core.Logic.{⊎-elim}
+use Prim.Native.Nat.{ℕ, _+_, _-_, _*_, _≤_, _<_}
+use native.Mathlib.Omega.{arith}
+use lib.ListN.{length}
+use Rattle.sums.specs.Sums.{total, inRun}
+use Rattle.sums.specs.SumLaws.{total-add, total-run, total-zero}
+use Rattle.sectors.specs.Sectors.{sec}
+use Rattle.sectors.specs.FlatLaws.{sec-in}
+use Rattle.counts.specs.declared.Geo.{Geo}
+use Rattle.counts.specs.Geometry.{gF, geoOk, geoOf, countOf, tableOf}
+use Rattle.counts.specs.GeoLaws.{Limits, limits}
+use Rattle.entries.specs.PassLaws.{run-room}
+use Rattle.directory.specs.Directory.{entriesOf}
+use Rattle.apages.specs.Bits.{bitAt, clearBits}
+use Rattle.apages.specs.BitLaws.{bit-lt}
+use Rattle.apages.specs.RunLaws.{clear-total}
+use Rattle.apages.specs.Runs.{pageOk}
+use Rattle.apages.specs.Index.{indexIn, shownPage, pageIn}
+use Rattle.card.specs.BitmapLaws.{InData, in-data, wanted-in, wanted-out, page-bits}
+use Rattle.card.specs.FileLaws.{Within, none, more, files-within, cover-out, in-run, out-run}
+use Rattle.card.specs.SoundLaws.{View, view-page, sound-view, shape-inv}
+use Rattle.card.specs.declared.Line.{Line}
+use Rattle.card.specs.Files.{filesOf, cover, sectorsOf}
+use Rattle.card.specs.Sound.{shapeOk, sound}
+use Rattle.card.specs.Make.{freshCard}
+use Rattle.card.specs.Reading.{filesIn, filesShown, pageShown}
+use Rattle.card.specs.FreshLaws.{fresh-geo, fresh-shape, fresh-sound, fresh-empty}
+
+-- each sector of the files is counted once for each file that holds it
+pub cover-total : {g : Geo} {fs : List Line} → Within g fs → (m : ℕ) → g .s ≤ m → total (cover fs) m ≡ sectorsOf fs
+unfolding cover sectorsOf
+cover-total none m h = total-zero m
+cover-total {g} (more {f = f} {fs = fs} r w) m h =
+    let a : total (inRun (f .run .start .0) (f .run .sectors)) m ≡ f .run .sectors = total-run (f .run .start .0) (f .run .sectors) m ∙ omega (arith, run-room g (f .run) r) in
+    sym (total-add (inRun (f .run .start .0) (f .run .sectors)) (cover fs) (cover (f ∷ fs)) m (λ i l. refl)) ∙ omega (arith, cover-total w m h)
+
+module _ (g : Geo) (ok : geoOk g ≡ true) (fs : List Line) (p : List ℕ) (wide : length p ≡ 512) (within : Within g fs) (page : pageOk g (cover fs) p ≡ true) where
+  L : Limits g
+  L = limits g ok
+
+  -- the bit of a sector, and how often files hold it
+  pub bit-cover : (n : ℕ) → InData g n → bitAt p n ≡ cover fs n
+  bit-cover n h = page-bits g (cover fs) p (omega (arith, wide, L .sHigh)) page n (omega (arith, wide, L .sHigh, h .1)) ∙ wanted-in g (cover fs) n h
+
+  pub bit-out : (n : ℕ) → n < 4096 → ¬ InData g n → bitAt p n ≡ 1
+  bit-out n l o = page-bits g (cover fs) p (omega (arith, wide, L .sHigh)) page n (omega (arith, wide)) ∙ wanted-out g (cover fs) n o
+
+  below : gF g ≤ g .s
+  unfolding gF
+  below = omega (arith, L .sLow)
+
+  -- a sector of the data is clear, or in one file
+  each : (n : ℕ) → n < 4096 → (1 - bitAt p n) + cover fs n ≡ inRun (gF g) (g .s - gF g) n
+  each n l = go (in-data g n)
+    where
+      go : Dec (InData g n) → (1 - bitAt p n) + cover fs n ≡ inRun (gF g) (g .s - gF g) n
+      go (yes h) = omega (arith, bit-cover n h, bit-lt p n, in-run (gF g) (g .s - gF g) n (h .0) (omega (arith, h .1, below)))
+      go (no o) =
+          omega
+          (arith, bit-out n l o, cover-out within n o, out-run (gF g) (g .s - gF g) n (λ q. o (q .0, omega (arith, q .1, below))))
+
+  pub space : clearBits p + sectorsOf fs + gF g ≡ g .s
+  space =
+      let a : clearBits p ≡ total (λ n. 1 - bitAt p n) 4096 = clear-total p ∙ ap (λ (m : ℕ). total (λ n. 1 - bitAt p n) (8 * m)) wide in
+      let b : total (λ n. 1 - bitAt p n) 4096 + total (cover fs) 4096 ≡ total (inRun (gF g) (g .s - gF g)) 4096 =
+      total-add (λ n. 1 - bitAt p n) (cover fs) (inRun (gF g) (g .s - gF g)) 4096 each in
+      omega (arith, cover-total within 4096 (L .sHigh), total-run (gF g) (g .s - gF g) 4096, below, L .sHigh)
+
+-- a view that passes, on an image of the right length
+module _ (g : Geo) (bound : ℕ) (tab img : List ℕ) (ok : geoOk g ≡ true) (sized : length img ≡ 512 * g .s) (U : View g bound tab (sec img)) where
+  pub page-wide : length (pageIn g tab (sec img)) ≡ 512
+  unfolding pageIn
+  page-wide =
+      let L : Limits g = limits g ok in
+      let e : shownPage tab (indexIn g (sec img)) < g .s =
+      ⊎-elim (λ q. omega (arith, L .sLow)) (λ q. omega (arith, L .sLow)) (view-page g bound tab (sec img) U) in
+      sec-in img (g .s) (shownPage tab (indexIn g (sec img))) sized e
+
+  pub view-space : clearBits (pageIn g tab (sec img)) + sectorsOf (filesOf tab (entriesOf g (sec img))) + gF g ≡ g .s
+  view-space = space g ok (filesOf tab (entriesOf g (sec img))) (pageIn g tab (sec img)) page-wide (files-within g bound tab (entriesOf g (sec img)) (U .entries)) (U .page)
+
+-- a card that reads: "clear bits shown", sectors of shown files and F
+pub card-space : (card : List ℕ) → shapeOk card ≡ true → sound card ≡ true
+    → clearBits (pageShown card) + sectorsOf (filesShown card) + gF (geoOf (sec card)) ≡ geoOf (sec card) .s
+unfolding sound pageShown filesShown filesIn
+card-space card a b =
+    let g : Geo = geoOf (sec card) in
+    let (o, l) = shape-inv card a in
+    view-space (geoOf (sec card)) (countOf (sec card)) (tableOf (geoOf (sec card)) (sec card)) card o l (sound-view (geoOf (sec card)) (sec card) b)
+
+-- on a fresh card all the data is free
+pub fresh-free : (g : Geo) → geoOk g ≡ true → clearBits (pageShown (freshCard g)) ≡ g .s - gF g
+unfolding sectorsOf
+fresh-free g ok =
+    let e : geoOf (sec (freshCard g)) ≡ g = fresh-geo g ok in
+    let f : filesShown (freshCard g) ≡ [] = fresh-empty g ok in
+    let q : clearBits (pageShown (freshCard g)) + 0 + gF g ≡ g .s = rw (f, e) at (card-space (freshCard g) (fresh-shape g ok) (fresh-sound g ok)) in
+    omega arith

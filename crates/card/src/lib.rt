@@ -1,0 +1,58 @@
+// A whole card: its geometry, the files it shows, when it is sound, making one and reading one.
+ghost use mathlib.Core.Path.{_≡_};
+ghost use Rattle.card.specs.Plan.{refused, done};
+use entries::Run;
+
+pub mod fresh; // fresh.rt: a fresh card, and make
+pub mod marks; // marks.rt: the bitmap against the files
+pub mod files; // files.rt: the files that a view shows
+pub mod sound; // sound.rt: when a card is sound
+pub mod reading; // reading.rt: reading a card without a session
+
+// One line a file: name, bytes, start, sectors.
+pub struct Line {
+    pub size: u32,
+    pub name: [u8; 32],
+    pub run: Run,
+}
+
+// The number from the table and the count that goes with it.
+pub struct Answer {
+    pub number: u32,
+    pub count: u32,
+}
+
+// The line at a position; the count is 1 where there is one, else 0.
+pub struct Lined {
+    pub answer: Answer,
+    pub line: Line,
+}
+
+// What reading a card gives: the number, C, N, the file count and the clear bits shown.
+pub struct Report {
+    pub number: u32,
+    pub c: u32,
+    pub n: u32,
+    pub files: u32,
+    pub free: u32,
+}
+
+// "A refusal returns its number and a zero count"
+pub fn refusal(k: u32) -> Answer
+    ensures { λ r. ⌜ r ≡ refused k ⌝ }
+{
+    Answer {
+        number: k,
+        count: 0,
+    }
+}
+
+// Number 0, with a count.
+pub fn success(n: u32) -> Answer
+    ensures { λ r. ⌜ r ≡ done n ⌝ }
+{
+    Answer {
+        number: 0,
+        count: n,
+    }
+}
