@@ -1,0 +1,135 @@
+-- The fit test's parts as code computes them. Assumes nothing.
+use mathlib.Core.Path.{_≡_, refl, sym, ap, _∙_}
+use mathlib.Core.Bool.{Bool, true, false, cond, not, _&&_}
+use mathlib.Core.List.{List, [], _∷_}
+use Prim.Native.Nat.{ℕ, zero, suc, _+_, _-_, _*_, _≤_, _<_}
+use native.Mathlib.Nat.{suc-add, zero-add}
+use native.Mathlib.Omega.{arith}
+use borrow.Author.Tests.{not-true, not-false, eqb-true}
+use lib.Dec.{leb, ltb, eqb}
+use lib.ListN.{length, take, drop, getD}
+use lib.Seq.{take-nil, drop-nil, set-out}
+use Rattle.words.specs.Lists.{every, pairwise, isZero, part}
+use Rattle.words.specs.Bytes.{wordAt}
+use Rattle.words.specs.BoolLaws.{both}
+use Rattle.words.specs.WordLaws.{word-part}
+use Rattle.sectors.specs.Sectors.{Cells, sec}
+use Rattle.sectors.specs.SectorLaws.{sec-part}
+use Rattle.counts.specs.declared.Geo.{Geo}
+use Rattle.counts.specs.declared.View.{View}
+use Rattle.counts.specs.Geometry.{gN, geoOk, geoOf, countOf, tableOf}
+use Rattle.counts.specs.Stamps.{maxTx, wordMax, asIs, tableIn}
+use Rattle.counts.specs.TableLaws.{LaidOut, table-length, ok-laid}
+use Rattle.directory.specs.Directory.{entriesOf, apart}
+use Rattle.apages.specs.Index.{indexIn}
+use Rattle.card.specs.Sound.{viewOk}
+use Rattle.session.specs.declared.Opened.{Opened}
+use Rattle.session.specs.Views.{presentView, presentTable, cutTable}
+use Rattle.session.specs.Fits.{sizesOk, headOk, wordOk, entryAtMost, fitsIn, fits}
+
+-- ---- the test in three parts
+
+-- the counts and the table
+unfoldable pub tableFits : Opened → Cells → Bool
+tableFits s k =
+    headOk s k && wordOk (s .worn) (s .t .0) (getD (cutTable s k) (s .c .0) 0) && every wordMax (cutTable s k) && every isZero (drop (s .c .0 + 1) (cutTable s k))
+
+-- the two views, and names
+unfoldable pub viewsFit : Opened → Cells → Bool
+viewsFit s k =
+    viewOk (s .geo) (s .c .0) (presentTable s k) k && viewOk (s .geo) (gN (s .geo)) (cutTable s k) k
+    && pairwise (apart (presentTable s k) (cutTable s k)) (entriesOf (s .geo) k)
+
+-- the stamps at c
+unfoldable pub stampsFit : Opened → Cells → Bool
+stampsFit s k = every (entryAtMost s) (entriesOf (s .geo) k) && entryAtMost s (indexIn (s .geo) k)
+
+four : (a b c d e f g h i : Bool) → (a && b && c && d && (e && f && g) && (h && i)) ≡ (a && b && c && d && e && f && g && h && i)
+four true true true true true true true h i = refl
+four true true true true true true false h i = refl
+four true true true true true false g h i = refl
+four true true true true false f g h i = refl
+four true true true false e f g h i = refl
+four true true false d e f g h i = refl
+four true false c d e f g h i = refl
+four false b c d e f g h i = refl
+
+pub parts : (s : Opened) (k : Cells) → (tableFits s k && viewsFit s k && stampsFit s k) ≡ fitsIn s k
+unfolding tableFits viewsFit stampsFit fitsIn entryAtMost
+parts s k =
+    four (headOk s k) (wordOk (s .worn) (s .t .0) (getD (cutTable s k) (s .c .0) 0)) (every wordMax (cutTable s k))
+    (every isZero (drop (s .c .0 + 1) (cutTable s k))) (viewOk (s .geo) (s .c .0) (presentTable s k) k) (viewOk (s .geo) (gN (s .geo)) (cutTable s k) k)
+    (pairwise (apart (presentTable s k) (cutTable s k)) (entriesOf (s .geo) k)) (every (entryAtMost s) (entriesOf (s .geo) k)) (entryAtMost s (indexIn (s .geo) k))
+
+-- what stands in a front part from n on
+drop-take : (n m : ℕ) (l : List ℕ) → drop n (take (n + m) l) ≡ take m (drop n l)
+drop-take zero m l = rw zero-add
+drop-take (suc n) m [] = rw (suc-add, take-nil, drop-nil)
+drop-take (suc n) m (x ∷ l) = rw suc-add (drop-take n m l)
+
+-- sector 0, read word by word
+pub head-here : (s : Opened) (work : List ℕ) {n : ℕ} {h : Geo} {z : Bool} → 512 ≤ length work → n ≡ wordAt work 0 → h ≡ geoOf (sec work)
+    → z ≡ every isZero (take (512 - 16) (drop 16 work))
+    → (eqb n (s .c .0 + 1) && eqb (h .s) (s .geo .s) && eqb (h .t) (s .geo .t) && eqb (h .d) (s .geo .d) && z) ≡ headOk s (sec work)
+unfolding headOk countOf
+head-here s work l en eh ez =
+    let w : wordAt (sec work 0) 0 ≡ wordAt work 0 = (unfold sec part in word-part work 512 0 0 (omega arith) (omega arith)) in
+    let z : drop 16 (sec work 0) ≡ take 496 (drop 16 work) = (unfold sec part in drop-take 16 496 work) in
+    rw (w, z, en, eh, ez)
+
+pub word-worn : (w : Bool) (t x : ℕ) → w ≡ true → (eqb t 2147483647 && eqb x 2147483647) ≡ wordOk w t x
+unfolding wordOk
+word-worn w t x e = rw e
+
+pub word-open : (w : Bool) (t x : ℕ) → w ≡ false → eqb (x + 1) t ≡ wordOk w t x
+unfolding wordOk
+word-open w t x e = rw e
+
+pub view-worn : (s : Opened) {v : View} → s .worn ≡ true → v ≡ asIs (s .geo) → v ≡ presentView s
+unfolding presentView
+view-worn s e h = h ∙ rw e
+
+pub view-open : (s : Opened) → s .worn ≡ false → record { c = s .c; t = s .t } ≡ presentView s
+unfolding presentView
+view-open s e = rw e
+
+-- the view that takes the table as it is
+as-is : (g : Geo) (img : List ℕ) → LaidOut g img → tableIn g (asIs g) (sec img) ≡ tableOf g (sec img)
+unfolding tableIn asIs gN
+as-is g img l = set-out (tableOf g (sec img)) (128 * g .t) 0 (omega (arith, table-length g img (omega (arith, l .room))))
+
+-- both views as code asks for them
+pub views-here : (s : Opened) (work : List ℕ) → LaidOut (s .geo) work → {p k : View} {a b n : Bool} → p ≡ presentView s → k ≡ asIs (s .geo)
+    → a ≡ viewOk (s .geo) (s .c .0) (tableIn (s .geo) p (sec work)) (sec work)
+    → b ≡ viewOk (s .geo) (128 * s .geo .t) (tableIn (s .geo) k (sec work)) (sec work)
+    → n ≡ pairwise (apart (tableIn (s .geo) p (sec work)) (tableIn (s .geo) k (sec work))) (entriesOf (s .geo) (sec work))
+    → (a && b && n) ≡ viewsFit s (sec work)
+unfolding viewsFit presentTable cutTable gN
+views-here s work l ep ek ea eb en =
+    let z : tableIn (s .geo) _ (sec work) ≡ tableOf (s .geo) (sec work) = ap (λ (x : View). tableIn (s .geo) x (sec work)) ek ∙ as-is (s .geo) work l in
+    rw (ea, eb, en, z, ep)
+
+-- the index as the part that code lends
+pub stamps-here : (s : Opened) (work : List ℕ) {a b : Bool} → a ≡ every (entryAtMost s) (entriesOf (s .geo) (sec work))
+    → b ≡ entryAtMost s (take (512 * (s .geo .t + 1) + 512 - 512 * (s .geo .t + 1)) (drop (512 * (s .geo .t + 1)) work)) → (a && b) ≡ stampsFit s (sec work)
+unfolding stampsFit indexIn
+stamps-here s work ea eb = rw (ea, eb, sec-part work (s .geo .t + 1))
+
+-- the sizes first
+pub fits-no : (s : Opened) (work : List ℕ) {r : Bool} → r ≡ sizesOk s work → not r ≡ true → false ≡ fits s work
+unfolding fits
+fits-no s work {r} e n = rw (sym e ∙ not-true r n)
+
+pub fits-laid : (s : Opened) (work : List ℕ) {r : Bool} → r ≡ sizesOk s work → not r ≡ false → LaidOut (s .geo) work
+unfolding sizesOk
+fits-laid s work {r} e n =
+    let (a, l) = both _ (eqb (length work) (512 * s .geo .s)) (sym e ∙ not-false r n) in
+    let b = both _ (leb (s .t .0) maxTx) a .0 in
+    let c = both _ (leb 1 (s .t .0)) b .0 in
+    let d = both (geoOk (s .geo)) (ltb (s .c .0) (gN (s .geo))) c .0 in
+    ok-laid (s .geo) work d (eqb-true _ _ l)
+
+pub fits-yes : (s : Opened) (work : List ℕ) {r a b c : Bool} → r ≡ sizesOk s work → not r ≡ false → a ≡ tableFits s (sec work) → b ≡ viewsFit s (sec work)
+    → c ≡ stampsFit s (sec work) → (a && b && c) ≡ fits s work
+unfolding fits
+fits-yes s work {r} e n ea eb ec = rw (sym e ∙ not-false r n, ea, eb, ec) (parts s (sec work))
