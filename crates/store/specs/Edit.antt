@@ -1,0 +1,84 @@
+-- put: "4, 2, 9, 5, 7, 8", and remove: "4, 2, 9, 5, 6". Assumes nothing.
+use mathlib.Core.Bool.{Bool, true, false, not}
+use mathlib.Core.List.{List, [], _∷_}
+use Prim.Native.Nat.{ℕ, zero, suc, _*_}
+use lib.ListN.{length, getD}
+use Rattle.words.specs.declared.Found.{Found}
+use Rattle.words.specs.declared.Found.the-variants.{At, Nowhere}
+use Rattle.words.specs.Lists.{firstAt, splice, pad}
+use Rattle.sectors.specs.Sectors.{sec}
+use Rattle.entries.specs.declared.Run.{Run}
+use Rattle.entries.specs.declared.Version.{Version}
+use Rattle.entries.specs.declared.Version.the-variants.{Absent, Present}
+use Rattle.entries.specs.Entries.{entryOf, entryBytes, sectorsFor, goodName, changed}
+use Rattle.directory.specs.Directory.{entriesOf, spotOf, setEntry, gone, named}
+use Rattle.apages.specs.Runs.{runFor}
+use Rattle.apages.specs.Index.{changeBits}
+use Rattle.card.specs.Plan.{Plan, guard, need, ended, doIt, refused, done, Changed}
+use Rattle.card.specs.Files.{runAt}
+use Rattle.session.specs.declared.Opened.{Opened}
+use Rattle.session.specs.declared.Session.{Session}
+use Rattle.session.specs.declared.Session.the-variants.{Closed, Open}
+use Rattle.session.specs.Views.{ownStamp, presentTable, cutTable, presentPage, cutPage}
+use Rattle.session.specs.Fits.{fits}
+
+-- "A name present in either view of an entry uses that entry; otherwise the lowest entry absent in both views."
+unfoldable pub orElse : Found → Found → Found
+orElse (At i) b = At i
+orElse Nowhere b = b
+
+unfoldable pub putPlace : List ℕ → List ℕ → List ℕ → List (List ℕ) → Found
+putPlace tp tc n ps = orElse (firstAt (named tp tc n) 0 ps) (firstAt (gone tp tc) 0 ps)
+
+-- the entry that put uses, and the run its content goes to
+unfoldable pub placeIn : Opened → List ℕ → List ℕ → Found
+placeIn s work n = putPlace (presentTable s (sec work)) (cutTable s (sec work)) n (entriesOf (s .geo) (sec work))
+
+unfoldable pub runIn : Opened → List ℕ → ℕ → Found
+runIn s work k = runFor k (presentPage s (sec work)) (cutPage s (sec work))
+
+-- "put 4, 2, 9, 5, 7, 8"
+unfoldable pub putPlan : Opened → List ℕ → List ℕ → List ℕ → Plan
+putPlan s work n d =
+    guard 2 (fits s work) (guard 9 (not (s .worn)) (guard 5 (goodName n)
+    (need 7 (placeIn s work n) (λ j. need 8 (runIn s work (sectorsFor (length d))) (λ a. doIt j a)))))
+
+-- "Content goes to the lowest run ..; The last sector is filled with zeros."
+unfoldable pub putContent : ℕ → ℕ → List ℕ → List ℕ → List ℕ
+putContent a zero d img = img
+putContent a (suc k) d img = splice img (512 * a) (pad (512 * suc k) d)
+
+-- entry j gets name n and version v; k sectors of content d go to sector a; "the file's earlier sectors, if any, are cleared"
+unfoldable pub editWork : Opened → ℕ → ℕ → ℕ → Version → List ℕ → List ℕ → List ℕ → List ℕ
+editWork s j a k v work n d =
+    let tp = presentTable s (sec work) in
+    let e = entryOf (getD (entriesOf (s .geo) (sec work)) j []) in
+    let earlier = runAt (s .geo) tp work j in
+    changeBits (s .geo) tp (ownStamp s) a k (earlier .start .0) (earlier .sectors)
+    (setEntry (spotOf (s .geo) j) (entryBytes (changed tp (ownStamp s) e n v)) (putContent a k d work))
+
+unfoldable pub putRun : ℕ → List ℕ → Run
+putRun a d = record { start = record { 0 = a }; sectors = sectorsFor (length d); bytes = length d }
+
+unfoldable pub putWork : Opened → ℕ → ℕ → List ℕ → List ℕ → List ℕ → List ℕ
+putWork s j a work n d = editWork s j a (sectorsFor (length d)) (Present (putRun a d)) work n d
+
+unfoldable pub put : Session → List ℕ → List ℕ → List ℕ → Changed
+put Closed work n d = record { answer = refused 4; image = work }
+put (Open s) work n d =
+    ended (putPlan s work n d) (λ k. record { answer = refused k; image = work }) (λ j a. record { answer = done 0; image = putWork s j a work n d })
+
+-- "remove 4, 2, 9, 5, 6"
+unfoldable pub removePlan : Opened → List ℕ → List ℕ → Plan
+removePlan s work n =
+    guard 2 (fits s work) (guard 9 (not (s .worn)) (guard 5 (goodName n)
+    (need 6 (firstAt (named (presentTable s (sec work)) (presentTable s (sec work)) n) 0 (entriesOf (s .geo) (sec work))) (λ j. doIt j 0))))
+
+-- "Remove writes an absent new version."
+unfoldable pub removeWork : Opened → ℕ → List ℕ → List ℕ → List ℕ
+removeWork s j work n = editWork s j 0 0 Absent work n []
+
+unfoldable pub remove : Session → List ℕ → List ℕ → Changed
+remove Closed work n = record { answer = refused 4; image = work }
+remove (Open s) work n =
+    ended (removePlan s work n) (λ k. record { answer = refused k; image = work }) (λ j a. record { answer = done 0; image = removeWork s j work n })

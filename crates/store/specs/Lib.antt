@@ -1,0 +1,15 @@
+pub mod Steps
+pub mod Mount
+pub mod Edit
+pub mod Look
+pub mod Sync
+pub mod StepLaws
+pub mod EditLaws
+pub mod WriteLaws
+pub mod ViewLaws
+pub mod SyncLaws
+pub mod RoomLaws
+pub mod CallLaws
+pub mod LookLaws
+pub mod CardLaws
+pub mod SyncCalls

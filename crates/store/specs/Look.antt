@@ -1,0 +1,37 @@
+-- get: "4, 2, 5, 6, 10"; list: "4, 2, 10"; free: "4, 2": the present view of a session. Assumes nothing.
+use mathlib.Core.List.{List}
+use Prim.Native.Nat.{ℕ}
+use Rattle.sectors.specs.Sectors.{sec}
+use Rattle.apages.specs.Bits.{clearBits}
+use Rattle.card.specs.declared.Answer.{Answer}
+use Rattle.card.specs.declared.Line.{Line}
+use Rattle.card.specs.declared.Lined.{Lined}
+use Rattle.card.specs.Plan.{Plan, guard, ended, doIt, refused, done, Got, Listed}
+use Rattle.card.specs.Files.{getPlan, getEnd, listPlan, listEnd, noLine, lineEnd}
+use Rattle.session.specs.declared.Opened.{Opened}
+use Rattle.session.specs.declared.Session.{Session}
+use Rattle.session.specs.declared.Session.the-variants.{Closed, Open}
+use Rattle.session.specs.Views.{presentTable, presentPage, presentFiles}
+use Rattle.session.specs.Fits.{fits}
+
+unfoldable pub get : Session → List ℕ → List ℕ → List ℕ → Got
+get Closed work n out = record { answer = refused 4; out = out }
+get (Open s) work n out =
+    let tp = presentTable s (sec work) in
+    getEnd (s .geo) tp work out (guard 2 (fits s work) (getPlan (s .geo) tp work n out))
+
+unfoldable pub list : Session → List ℕ → List Line → Listed
+list Closed work lines = record { answer = refused 4; lines = lines }
+list (Open s) work lines =
+    let files = presentFiles s (sec work) in
+    listEnd files lines (guard 2 (fits s work) (listPlan files lines))
+
+-- the line at a position (4, 2)
+unfoldable pub line : Session → List ℕ → ℕ → Lined
+line Closed work i = record { answer = refused 4; line = noLine }
+line (Open s) work i = lineEnd (presentFiles s (sec work)) i (guard 2 (fits s work) (doIt 0 0))
+
+-- "Free is the count of clear bits in the present bitmap"
+unfoldable pub free : Session → List ℕ → Answer
+free Closed work = refused 4
+free (Open s) work = ended (guard 2 (fits s work) (doIt 0 0)) refused (λ j a. done (clearBits (presentPage s (sec work))))

@@ -1,0 +1,133 @@
+-- The first k steps of mount, sync and unmount, taken apart as code does them. Assumes nothing.
+use mathlib.Core.Path.{_≡_, refl, sym, ap, _∙_}
+use mathlib.Core.Bool.{true, false}
+use mathlib.Core.Logic.{_≢_}
+use mathlib.Core.List.{List, [], _∷_, _++_}
+use Prim.Native.Nat.{ℕ, zero, suc, _+_, _-_, _*_, _/_, _%_, _≤_, _<_, min}
+use native.Mathlib.Omega.{arith}
+use lib.ListN.{length, take, getD}
+use Rattle.words.specs.Lists.{part, splice}
+use Rattle.words.specs.Bytes.{wordAt, wordBytes}
+use Rattle.words.specs.WordLaws.{wordBytes-length, word-part}
+use Rattle.sectors.specs.Sectors.{sec, setSec, Step, settle, applySteps, copySteps}
+use Rattle.sectors.specs.SectorLaws.{applySteps-append, copySteps-append, copySteps-take}
+use Rattle.sectors.specs.FlatLaws.{inside-here, inside-other}
+use Rattle.counts.specs.declared.Geo.{Geo}
+use Rattle.counts.specs.Geometry.{gN, geoOf, countOf, tableOf}
+use Rattle.counts.specs.Stamps.{maxTx}
+use Rattle.counts.specs.GeoLaws.{limits, table-inv}
+use Rattle.counts.specs.TableLaws.{LaidOut, ok-laid}
+use Rattle.card.specs.Sound.{shapeOk, sound}
+use Rattle.card.specs.SoundLaws.{shape-inv, sound-inv}
+use Rattle.session.specs.declared.Opened.{Opened}
+use Rattle.session.specs.Fits.{fits}
+use Rattle.session.specs.FitLaws.{fit-inv}
+use Rattle.store.specs.Steps.{setCount, setWord, tableSector, mountSteps}
+use Rattle.store.specs.Mount.{openedFrom}
+
+-- ---- what the calls ask
+
+pub record CanMount (card : List ℕ) : Type 0 where
+  pub laid : LaidOut (geoOf (sec card)) card
+  pub count : countOf (sec card) < 128 * geoOf (sec card) .t
+  pub word : getD (tableOf (geoOf (sec card)) (sec card)) (countOf (sec card)) 0 < maxTx
+
+pub can-mount : (card : List ℕ) → shapeOk card ≡ true → sound card ≡ true → countOf (sec card) < gN (geoOf (sec card)) → CanMount card
+unfolding sound
+can-mount card h k l =
+    let (g, m) = shape-inv card h in
+    let S = sound-inv (geoOf (sec card)) (sec card) k in
+    record { laid = ok-laid (geoOf (sec card)) card g m; count = unfold gN in l; word = table-inv _ _ _ (S .tab) .word l }
+
+pub record CanSync (s : Opened) (card work : List ℕ) : Type 0 where
+  pub room : s .geo .t + 4 + s .geo .d < s .geo .s
+  pub top : s .geo .s ≤ 4096
+  pub table : s .geo .t ≤ 512
+  pub count : s .c .0 < 128 * s .geo .t
+  pub tx : s .t .0 ≤ maxTx
+  pub cardSize : length card ≡ 512 * s .geo .s
+  pub workSize : length work ≡ 512 * s .geo .s
+
+pub can-sync : (s : Opened) (card work : List ℕ) → length card ≡ 512 * s .geo .s → fits s work ≡ true → CanSync s card work
+can-sync s card work l h =
+    let F = fit-inv s work h in
+    let L = limits (s .geo) (F .shape) in
+    record { room = L .sLow; top = L .sHigh; table = L .tHigh; count = unfold gN in F .count; tx = F .tx; cardSize = l; workSize = F .sized }
+
+-- ---- sectors with one word put
+
+pub count-sector : (c : ℕ) (img : List ℕ) → sec (setCount c img) 0 ≡ splice (sec img 0) 0 (wordBytes c)
+unfolding setCount
+count-sector c img = inside-here img 0 0 (wordBytes c) (omega (arith, wordBytes-length c))
+
+at-word : (c : ℕ) → 512 + 4 * c ≡ 512 * (1 + c / 128) + 4 * (c % 128)
+at-word c = omega arith
+
+pub word-sector : (c t : ℕ) (img : List ℕ) → sec (setWord c t img) (tableSector c) ≡ splice (sec img (1 + c / 128)) (4 * (c % 128)) (wordBytes t)
+unfolding setWord tableSector
+word-sector c t img = rw (at-word c) (inside-here img (1 + c / 128) (4 * (c % 128)) (wordBytes t) (omega (arith, wordBytes-length t)))
+
+pub word-first : (c t : ℕ) (img : List ℕ) → sec (setWord c t img) 0 ≡ sec img 0
+unfolding setWord
+word-first c t img =
+    rw (at-word c) (inside-other img (1 + c / 128) (4 * (c % 128)) (wordBytes t) (omega (arith, wordBytes-length t)) 0 (λ e. omega arith))
+
+pub count-here : (img : List ℕ) → 512 ≤ length img → wordAt img 0 ≡ countOf (sec img)
+unfolding countOf sec part
+count-here img h = sym (word-part img 512 0 0 (omega arith) (omega arith))
+
+-- ---- lists of steps
+
+pub take-nil : (m : ℕ) → take m (let l : List Step = [] in l) ≡ []
+take-nil zero = refl
+take-nil (suc m) = refl
+
+pub take-split : (k : ℕ) (a b : List Step) → take k (a ++ b) ≡ take k a ++ take (k - length a) b
+take-split zero a b = let e : 0 - length a ≡ 0 = omega arith in rw e
+take-split (suc k) [] b = let e : suc k - 0 ≡ suc k = omega arith in rw e
+take-split (suc k) (x ∷ a) b =
+    let e : suc k - suc (length a) ≡ k - length a = omega arith in
+    rw e (ap (λ (l : List Step). x ∷ l) (take-split k a b))
+
+pub copy-length : (img : List ℕ) (i n : ℕ) → length (copySteps img i n []) ≡ n
+unfolding copySteps
+copy-length img i zero = refl
+copy-length img i (suc n) = ap suc (copy-length img (suc i) n)
+
+-- the first k steps of a copy with steps behind it
+pub copy-then : (img : List ℕ) (i n k : ℕ) (r : List Step) (card : List ℕ)
+    → applySteps (take k (copySteps img i n r)) card ≡ applySteps (take (k - n) r) (applySteps (copySteps img i (min k n) []) card)
+copy-then img i n k r card =
+    ap (λ (l : List Step). applySteps (take k l) card) (copySteps-append img i n r)
+    ∙ ap (λ (l : List Step). applySteps l card) (take-split k (copySteps img i n []) r)
+    ∙ applySteps-append (take k (copySteps img i n [])) _ card
+    ∙ rw (copySteps-take img i n k, copy-length img i n)
+
+pub settled : (m : ℕ) (card : List ℕ) → applySteps (take m (settle ∷ [])) card ≡ card
+unfolding applySteps
+settled zero card = refl
+settled (suc m) card = rw (take-nil m)
+
+-- ---- mount
+
+pub mount-none : (k : ℕ) (card : List ℕ) → k ≡ 0 → card ≡ applySteps (take k (mountSteps card)) card
+unfolding applySteps
+mount-none zero card h = refl
+mount-none (suc k) card h = absurd (omega arith)
+
+pub mount-some : (k : ℕ) (card : List ℕ) {c : ℕ} {block f : List ℕ} → k ≢ 0 → 512 ≤ length card → c ≡ wordAt card 0
+    → block ≡ splice (sec card 0) 0 (wordBytes (c + 1)) → f ≡ setSec card 0 block → f ≡ applySteps (take k (mountSteps card)) card
+unfolding applySteps mountSteps
+mount-some zero card n l e g h = absurd (n refl)
+mount-some (suc k) card n l e g h =
+    h ∙ rw (g, e, count-here card l, ← count-sector) (sym (settled k _))
+
+-- the session that mount opens, from the words that code reads
+pub opened-here : (card : List ℕ) {g : Geo} {c t : ℕ} → 512 ≤ length card → g ≡ geoOf (sec card) → c ≡ wordAt card 0 → t ≡ getD (tableOf g (sec card)) c 0
+    → record { geo = g; c = record { 0 = c }; t = record { 0 = t + 1 }; worn = false } ≡ openedFrom card
+unfolding openedFrom
+opened-here card h eg ec et = rw (et, ec, eg, count-here card h)
+
+pub word-fits : (card : List ℕ) {g : Geo} {c t : ℕ} → CanMount card → 512 ≤ length card → g ≡ geoOf (sec card) → c ≡ wordAt card 0 → t ≡ getD (tableOf g (sec card)) c 0
+    → t < maxTx
+word-fits card M h eg ec et = rw (et, ec, eg, count-here card h) (M .word)
