@@ -1,0 +1,180 @@
+-- One change of an entry in a session that fits: the entry and the index that it writes pass. Assumes nothing.
+use mathlib.Core.Path.{_≡_, refl, _∙_}
+use mathlib.Core.Bool.{true, _&&_}
+use mathlib.Core.List.{List}
+use mathlib.Core.Logic.{inl, inr, ⊎-elim, _≢_}
+use Prim.Native.Nat.{ℕ, _+_, _-_, _≤_, _<_}
+use native.Mathlib.Omega.{arith}
+use borrow.Author.Tests.{lt-ltb, le-leb}
+use lib.Dec.{leb}
+use lib.ListN.{length, getD, set, replicate}
+use lib.Seq.{take-at, drop-at}
+use Rattle.sums.specs.Sums.{inRun}
+use Rattle.words.specs.Lists.{every, pad}
+use Rattle.words.specs.Bytes.{wordAt}
+use Rattle.words.specs.BoolLaws.{join, or-intro}
+use Rattle.sectors.specs.Sectors.{Cells, sec}
+use Rattle.counts.specs.declared.Geo.{Geo}
+use Rattle.counts.specs.Geometry.{gN, geoOf, countOf, tableOf}
+use Rattle.counts.specs.GeoLaws.{Limits}
+use Rattle.counts.specs.StampLaws.{own-alive}
+use Rattle.counts.specs.Stamps.{maxTx, stampOf, stampOk, deadBelow}
+use Rattle.entries.specs.declared.Version.{Version}
+use Rattle.entries.specs.declared.Version.the-variants.{Absent}
+use Rattle.entries.specs.Entries.{nameBytes, shown, isAbsent, goodByte, goodName, nameOf, nameOk, entryOk}
+use Rattle.entries.specs.PassLaws.{passes-intro}
+use Rattle.entries.specs.ChangeLaws.{zeros-zero, bytes-stamp, bytes-size, bytes-name, bytes-zeros, now-wf}
+use Rattle.directory.specs.Directory.{entriesOf}
+use Rattle.apages.specs.Bits.{bitAt}
+use Rattle.apages.specs.Index.{indexBytes, indexIn, pairOk, pageIn}
+use Rattle.apages.specs.IndexLaws.{index-rest}
+use Rattle.apages.specs.PassLaws.{IndexPasses, index-inv}
+use Rattle.card.specs.Files.{filesOf, cover, runOf}
+use Rattle.card.specs.SoundLaws.{View}
+use Rattle.session.specs.declared.Opened.{Opened}
+use Rattle.session.specs.Views.{presentTable}
+use Rattle.session.specs.Fits.{headOk, entryAtMost, stampAtMost}
+use Rattle.session.specs.FitLaws.{Fit, present-live, at-most-intro}
+use Rattle.store.specs.Edit.{editWork}
+use Rattle.promises.specs.Idx.{back-stamp, back-a, back-b, pair-ab}
+use Rattle.promises.specs.Ready.{ownOf, tcOf, tpOf, entryAt, entryFor, indexAt, indexFor, lim, hc, hw, pres, idxCut, idxStamp, Ready, inCut, stamps}
+use Rattle.promises.specs.Change.{index-now, entries-now}
+use Rattle.promises.specs.Alone.{Alone}
+use Rattle.promises.specs.Answered.{same-table, same-tp}
+
+-- a good name, padded, passes as an entry's
+padded-ok : (n : List ℕ) → goodName n ≡ true → nameOk (length n) (pad 32 n) ≡ true
+unfolding goodName nameOk pad
+padded-ok n h =
+    rw (take-at n (replicate (32 - length n) 0) (length n) refl, drop-at n (replicate (32 - length n) 0) (length n) refl)
+    (join (leb 1 (length n) && leb (length n) 32 && every goodByte n) _ h (zeros-zero (32 - length n)))
+
+pub head-cong : (s : Opened) (k k′ : Cells) → k′ 0 ≡ k 0 → headOk s k ≡ true → headOk s k′ ≡ true
+unfolding headOk countOf geoOf
+head-cong s k k′ e h = rw e h
+
+-- a change that a plan which goes through makes: ready, and what the searches say of its name and its sectors
+pub record Made (s : Opened) (j a k : ℕ) (v : Version) (work n d : List ℕ) : Type 0 where
+  pub ready : Ready s j a k v work n d (sec work)
+  pub alone : Alone (tpOf s work) (tcOf s work) n (entriesOf (s .geo) (sec work)) j
+  pub named : shown (tpOf s work) (entryAt s j work) ≢ Absent → nameOf (entryAt s j work) ≡ n
+  pub free : (i : ℕ) → a ≤ i → i < a + k → cover (filesOf (tpOf s work) (entriesOf (s .geo) (sec work))) i ≡ 0
+  pub name : goodName n ≡ true
+  pub clear : (i : ℕ) → a ≤ i → i < a + k → bitAt (pageIn (s .geo) (tpOf s work) (sec work)) i ≡ 0
+  pub run : (i : ℕ) → inRun (runOf v .start .0) (runOf v .sectors) i ≡ inRun a k i
+
+module _ (s : Opened) (j a k : ℕ) (v : Version) (work n d : List ℕ) (M : Made s j a k v work n d) where
+  abbrev R : Ready s j a k v work n d (sec work)
+  R = M .ready
+
+  abbrev g : Geo
+  g = s .geo
+
+  abbrev tp : List ℕ
+  tp = tpOf s work
+
+  abbrev tc : List ℕ
+  tc = tcOf s work
+
+  abbrev es : List (List ℕ)
+  es = entriesOf (s .geo) (sec work)
+
+  abbrev x : List ℕ
+  x = entryFor s j v work n
+
+  abbrev after : List ℕ
+  after = editWork s j a k v work n d
+
+  F : Fit s work
+  F = R .fit
+
+  L : Limits g
+  L = lim s work F (R .live)
+
+  pub hC : s .c .0 < length tc
+  hC = hc s work F (R .live)
+
+  pub hW : getD tc (s .c .0) 0 + 1 ≡ s .t .0
+  hW = hw s work F (R .live)
+
+  P : View g (s .c .0) tp (sec work)
+  P = pres s work F (R .live)
+
+  pub tab≡ : tableOf g (sec after) ≡ tc
+  tab≡ = same-table s j a k v work n d (sec work) R (M .alone) (M .named) (M .free)
+
+  pub es≡ : entriesOf g (sec after) ≡ set es j x
+  es≡ = entries-now s j a k v work n d (sec work) R
+
+  pub pres≡ : presentTable s (sec after) ≡ tp
+  pres≡ = present-live s (sec after) (R .live) ∙ same-tp s j a k v work n d (sec work) R (M .alone) (M .named) (M .free)
+
+  -- ---- the stamp (c, t)
+
+  own-ok : stampOk g (ownOf s) ≡ true
+  unfolding stampOk
+  own-ok = join _ _ (lt-ltb (s .c .0) (gN g) (F .count)) (le-leb (s .t .0) maxTx (F .tx))
+
+  own-dead : deadBelow (s .c .0) tp (ownOf s) ≡ true
+  unfolding deadBelow
+  own-dead = or-intro _ _ (inl (own-alive tc (ownOf s) hC hW))
+
+  own-most : stampAtMost s (ownOf s) ≡ true
+  own-most = at-most-intro s (ownOf s) (λ q. omega arith)
+
+  x-stamp : stampOf x ≡ ownOf s
+  x-stamp = bytes-stamp g L tc (ownOf s) hC hW (F .count) (F .tx) (entryAt s j work) n v (stamps s j a k v work n d (sec work) R) (inCut s j a k v work n d (sec work) R .wf) (R .short) (R .good)
+
+  pub x-most : entryAtMost s x ≡ true
+  unfolding entryAtMost
+  x-most = rw x-stamp own-most
+
+  pub x-good : entryOk g (s .c .0) tp x ≡ true
+  x-good =
+      let st = stamps s j a k v work n d (sec work) R in
+      let wf = inCut s j a k v work n d (sec work) R .wf in
+      let size : wordAt x 8 ≡ length n = bytes-size g L tc (ownOf s) hC hW (F .count) (F .tx) (entryAt s j work) n v st wf (R .short) (R .good) in
+      let name : nameBytes x ≡ pad 32 n = bytes-name g L tc (ownOf s) hC hW (F .count) (F .tx) (entryAt s j work) n v st wf (R .short) (R .good) in
+      passes-intro g (s .c .0) tp x
+      (record {
+        stamp = rw x-stamp own-ok;
+        dead = rw x-stamp own-dead;
+        zeros = bytes-zeros g L tc (ownOf s) hC hW (F .count) (F .tx) (entryAt s j work) n v st wf (R .short) (R .good);
+        wf = now-wf g L tc (ownOf s) hC hW (F .count) (F .tx) (entryAt s j work) n v st wf (R .short) (R .good);
+        name = or-intro (isAbsent (shown tp x)) _ (inr (rw (size, name) (padded-ok n (M .name))));
+      })
+
+  -- ---- the index sector
+
+  pub ix≡ : sec after (g .t + 1) ≡ sec work (g .t + 1) → indexIn g (sec after) ≡ indexAt s work
+  unfolding indexIn
+  ix≡ e = e
+
+  pub ixN : sec after (g .t + 1) ≡ indexBytes (indexFor s work) → indexIn g (sec after) ≡ indexBytes (indexFor s work)
+  unfolding indexIn
+  ixN e = e
+
+  abbrev pairs : pairOk g (wordAt (indexAt s work) 8) (wordAt (indexAt s work) 12) ≡ true
+  pairs = idxCut s work F (R .live) .pair
+
+  abbrev ixS : stampOf (indexAt s work) .cc .0 ≡ s .c .0 → stampOf (indexAt s work) .txc .0 ≤ s .t .0
+  ixS = idxStamp s work F (R .live)
+
+  new-stamp : stampOf (indexBytes (indexFor s work)) ≡ ownOf s
+  new-stamp = back-stamp g tc (ownOf s) hC hW (indexAt s work) ixS pairs L (F .count) (F .tx)
+
+  new-index : IndexPasses g (s .c .0) tp (indexBytes (indexFor s work))
+  new-index =
+      record {
+        stamp = rw new-stamp own-ok;
+        dead = rw new-stamp own-dead;
+        zeros = index-rest (indexFor s work);
+        pair = rw (back-a g tc (ownOf s) hC hW (indexAt s work) ixS pairs L (F .count) (F .tx), back-b g tc (ownOf s) hC hW (indexAt s work) ixS pairs L (F .count) (F .tx))
+            (pair-ab g tc (ownOf s) hC hW (indexAt s work) ixS pairs);
+      }
+
+  pub index-good : IndexPasses g (s .c .0) tp (indexIn g (sec after))
+  index-good = ⊎-elim (λ q. rw (ix≡ (q .1)) (index-inv g (s .c .0) tp (indexAt s work) (P .index))) (λ q. rw (ixN (q .1)) new-index) (index-now s j a k v work n d (sec work) R)
+
+  pub index-most : stampAtMost s (stampOf (indexIn g (sec after))) ≡ true
+  index-most = ⊎-elim (λ q. rw (ix≡ (q .1)) (F .stamp)) (λ q. rw (ixN (q .1), new-stamp) own-most) (index-now s j a k v work n d (sec work) R)

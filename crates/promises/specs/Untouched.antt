@@ -1,0 +1,161 @@
+-- What a put or remove that gives 0 changes in the working image, and that all the rest stays as it was. Assumes nothing.
+use mathlib.Core.Path.{_≡_, refl, sym, _∙_}
+use mathlib.Core.List.{List, [], _∷_}
+use mathlib.Core.Logic.{⊎-elim}
+use Prim.Native.Nat.{ℕ, zero, suc, _+_, _*_, _≤_, _<_}
+use native.Mathlib.Omega.{arith}
+use lib.ListN.{length, take, drop, getD, set}
+use Rattle.words.specs.Lists.{pad}
+use Rattle.words.specs.SpliceLaws.{range-same}
+use Rattle.sectors.specs.Sectors.{sec}
+use Rattle.sectors.specs.FlatLaws.{flat-same}
+use Rattle.counts.specs.declared.Geo.{Geo}
+use Rattle.counts.specs.Geometry.{gN, gF}
+use Rattle.entries.specs.declared.Version.{Version}
+use Rattle.entries.specs.declared.Version.the-variants.{Absent, Present}
+use Rattle.entries.specs.Entries.{entryOf, entryBytes, changed, sectorsFor}
+use Rattle.entries.specs.ChangeLaws.{pad-length}
+use Rattle.directory.specs.Directory.{entriesOf}
+use Rattle.apages.specs.Bits.{bitAt}
+use Rattle.apages.specs.Index.{indexIn, shownPage, pageIn}
+use Rattle.card.specs.Plan.{doIt, ended, done}
+use Rattle.card.specs.Files.{filesOf, cover}
+use Rattle.card.specs.SoundLaws.{view-page}
+use Rattle.session.specs.declared.Opened.{Opened}
+use Rattle.session.specs.declared.Session.the-variants.{Open}
+use Rattle.session.specs.Views.{ownStamp, presentTable, cutTable, presentPage, cutPage}
+use Rattle.session.specs.FitLaws.{fit-inv, present-live}
+use Rattle.store.specs.Edit.{putContent, putPlan, putRun, putWork, put, removePlan, removeWork, remove, editWork}
+use Rattle.store.specs.EditLaws.{CanEdit}
+use Rattle.store.specs.RoomLaws.{can-put, can-remove}
+use Rattle.promises.specs.Ready.{tcOf, tpOf, indexAt, cut, pages, Ready, spot}
+use Rattle.promises.specs.Change.{edit-length, data-put, left-alone, entries-now, change-edit}
+use Rattle.promises.specs.Spots.{put-inv, put-num, remove-inv, remove-num}
+use Rattle.promises.specs.Calls.{put-ready, remove-ready}
+use Rattle.promises.specs.Answers.{run-free, done-plan}
+use Rattle.promises.specs.BitsNow.{InRun, earlierRun, same-head, same-table, earlier-is, bit-set, bit-clear, bit-same}
+
+-- after is work, but for entry j (name n, version v), k sectors of content d from sector a on, and the bitmap's bits of these and of the earlier sectors
+pub record Untouched (s : Opened) (j a k : ℕ) (v : Version) (work n d after : List ℕ) : Type 0 where
+  -- the working image keeps its size
+  pub size : length after ≡ length work
+  -- the head and the table, sectors 0 to T, are the same
+  pub head : (i : ℕ) → i ≤ s .geo .t → sec after i ≡ sec work i
+  -- entry j gets the name and the version; every other entry is the same
+  pub entries : entriesOf (s .geo) (sec after)
+      ≡ set (entriesOf (s .geo) (sec work)) j (entryBytes (changed (presentTable s (sec work)) (ownStamp s) (entryOf (getD (entriesOf (s .geo) (sec work)) j [])) n v))
+  -- every data sector outside the run is the same
+  pub others : (i : ℕ) → gF (s .geo) ≤ i → ¬ InRun a k i → sec after i ≡ sec work i
+  -- the run holds the content; the last sector is filled with zeros
+  pub content : take (512 * k) (drop (512 * a) after) ≡ pad (512 * k) d
+  -- the present page: the run's bits are set, the earlier sectors' bits are cleared, every other bit is the same
+  pub taken : (i : ℕ) → InRun a k i → bitAt (presentPage s (sec after)) i ≡ 1
+  pub freed : (i : ℕ) → InRun (earlierRun s work j .start .0) (earlierRun s work j .sectors) i → bitAt (presentPage s (sec after)) i ≡ 0
+  pub bits : (i : ℕ) → ¬ InRun a k i → ¬ InRun (earlierRun s work j .start .0) (earlierRun s work j .sectors) i
+      → bitAt (presentPage s (sec after)) i ≡ bitAt (presentPage s (sec work)) i
+  -- the page that the cut view shows is the same
+  pub cut : cutPage s (sec after) ≡ cutPage s (sec work)
+
+-- the content, as it was put
+content-there : (a k : ℕ) (d work : List ℕ) → 512 * (a + k) ≤ length work → length d ≤ 512 * k → take (512 * k) (drop (512 * a) (putContent a k d work)) ≡ pad (512 * k) d
+unfolding putContent pad
+content-there a zero [] work l e = refl
+content-there a zero (x ∷ d) work l e = absurd (omega arith)
+content-there a (suc k) d work l e = range-same work (512 * a) (512 * suc k) (pad (512 * suc k) d) (pad-length (512 * suc k) d e) (omega arith)
+
+-- ---- one change of an entry
+
+module _ (s : Opened) (j a k : ℕ) (v : Version) (work n d : List ℕ) (R : Ready s j a k v work n d (sec work)) (C : CanEdit s work j a k n d)
+    (free : (i : ℕ) → a ≤ i → i < a + k → cover (filesOf (tpOf s work) (entriesOf (s .geo) (sec work))) i ≡ 0) where
+  abbrev g : Geo
+  g = s .geo
+
+  abbrev after : List ℕ
+  after = editWork s j a k v work n d
+
+  same-others : (i : ℕ) → gF g ≤ i → ¬ InRun a k i → sec after i ≡ sec work i
+  unfolding gF
+  same-others i h o =
+      left-alone s j a k v work n d (sec work) R i (omega (arith, spot s j a k v work n d (sec work) R .high)) (omega arith) (omega (arith, pages s work (R .fit) (R .live) .1)) o
+
+  content-now : take (512 * k) (drop (512 * a) after) ≡ pad (512 * k) d
+  content-now =
+      flat-same after (putContent a k d work) k a (λ i lo hi. data-put s j a k v work n d (sec work) R i (R .inside i lo hi))
+      ∙ content-there a k d work (C .room) (R .enough)
+
+  -- ---- the page that the cut view shows
+
+  abbrev at-cut : ℕ
+  at-cut = shownPage (tcOf s work) (indexAt s work)
+
+  cut-range : (g .t + 2 ≤ at-cut) × (at-cut ≤ g .t + 3)
+  cut-range = ⊎-elim (λ q. (omega (arith, q), omega (arith, q))) (λ q. (omega (arith, q), omega (arith, q))) (view-page g (gN g) (tcOf s work) (sec work) (cut s work (R .fit) (R .live)))
+
+  same-cut : cutPage s (sec after) ≡ cutPage s (sec work)
+  unfolding cutPage cutTable pageIn indexIn gF
+  same-cut =
+      let E = change-edit s j a k v work n d (sec work) R in
+      rw (same-table s j a k v work n d R C free, E .index .page)
+      (E .other at-cut (omega (arith, cut-range .1, E .low)) (omega (arith, cut-range .0)) (λ e. E .hidden (sym e)) (λ q. omega (arith, cut-range .1, E .inside at-cut (q .0) (q .1))))
+
+  entries-are : entriesOf g (sec after)
+      ≡ set (entriesOf g (sec work)) j (entryBytes (changed (presentTable s (sec work)) (ownStamp s) (entryOf (getD (entriesOf g (sec work)) j [])) n v))
+  unfolding ownStamp
+  entries-are = rw (present-live s (sec work) (R .live)) (entries-now s j a k v work n d (sec work) R)
+
+  pub edit-untouched : Untouched s j a k v work n d after
+  edit-untouched =
+      record {
+        size = edit-length s j a k v work n d (sec work) R ∙ sym (R .fit .sized);
+        head = same-head s j a k v work n d R C free;
+        entries = entries-are;
+        others = same-others;
+        content = content-now;
+        taken = bit-set s j a k v work n d R C free;
+        freed = rw (earlier-is s j a k v work n d R C free) (bit-clear s j a k v work n d R C free);
+        bits = rw (earlier-is s j a k v work n d R C free) (bit-same s j a k v work n d R C free);
+        cut = same-cut;
+      }
+
+-- ---- put and remove
+
+pub put-untouched : (s : Opened) (work n d : List ℕ) (j a : ℕ) → putPlan s work n d ≡ doIt j a
+    → Untouched s j a (sectorsFor (length d)) (Present (putRun a d)) work n d (putWork s j a work n d)
+unfolding putWork
+put-untouched s work n d j a h =
+    let p = put-inv s work n d j a h in
+    edit-untouched s j a (sectorsFor (length d)) (Present (putRun a d)) work n d (put-ready s work (sec work) refl n d j a h)
+    (can-put s work n d j a (p .fit) (p .name) (p .entry) (p .run) refl)
+    (run-free s work (fit-inv s work (p .fit)) (p .live) (sectorsFor (length d)) a (p .run))
+
+pub remove-untouched : (s : Opened) (work n : List ℕ) (j a : ℕ) → removePlan s work n ≡ doIt j a → Untouched s j 0 0 Absent work n [] (removeWork s j work n)
+unfolding removeWork
+remove-untouched s work n j a h =
+    let p = remove-inv s work n j a h in
+    edit-untouched s j 0 0 Absent work n [] (remove-ready s work (sec work) refl n j a h) (can-remove s work n j (p .fit) (p .name) (p .entry))
+    (λ i lo hi. absurd (omega arith))
+
+-- ---- as the calls answer: 0 goes with an entry and a run, and the call leaves the image so changed
+
+put-leaves : (s : Opened) (work n d : List ℕ) (j a : ℕ) → putPlan s work n d ≡ doIt j a
+    → Untouched s j a (sectorsFor (length d)) (Present (putRun a d)) work n d (put (Open s) work n d .image)
+unfolding put
+put-leaves s work n d j a h = rw h (unfold ended in put-untouched s work n d j a h)
+
+remove-leaves : (s : Opened) (work n : List ℕ) (j a : ℕ) → removePlan s work n ≡ doIt j a → Untouched s j 0 0 Absent work n [] (remove (Open s) work n .image)
+unfolding remove
+remove-leaves s work n j a h = rw h (unfold ended in remove-untouched s work n j a h)
+
+pub put-changes : (s : Opened) (work n d : List ℕ) → put (Open s) work n d .answer .number ≡ 0
+    → (j : ℕ) × (a : ℕ) × (putPlan s work n d ≡ doIt j a) × Untouched s j a (sectorsFor (length d)) (Present (putRun a d)) work n d (put (Open s) work n d .image)
+unfolding put
+put-changes s work n d h =
+    let (j, a, e) = done-plan work (λ i b. record { answer = done 0; image = putWork s i b work n d }) (put-num s work n d) h in
+    (j, a, e, put-leaves s work n d j a e)
+
+pub remove-changes : (s : Opened) (work n : List ℕ) → remove (Open s) work n .answer .number ≡ 0
+    → (j : ℕ) × (a : ℕ) × (removePlan s work n ≡ doIt j a) × Untouched s j 0 0 Absent work n [] (remove (Open s) work n .image)
+unfolding remove
+remove-changes s work n h =
+    let (j, a, e) = done-plan work (λ i b. record { answer = done 0; image = removeWork s i work n }) (remove-num s work n) h in
+    (j, a, e, remove-leaves s work n j a e)

@@ -1,0 +1,118 @@
+-- One view that passes, as a plain list: names, get and list. Assumes nothing.
+use mathlib.Core.Path.{_≡_, refl, ap, _∙_}
+use mathlib.Core.Bool.{Bool, true, false}
+use mathlib.Core.List.{List, [], _++_}
+use mathlib.Core.Option.{none, some}
+use mathlib.Core.Logic.{⊎-elim}
+use Prim.Native.Nat.{ℕ, suc, _*_, _≤_, _<_}
+use native.Mathlib.Omega.{arith}
+use borrow.Author.Tests.{eq-eqb, le-leb}
+use lib.Dec.{leb}
+use lib.ListN.{length, drop, getD}
+use Rattle.words.specs.declared.Found.{Found}
+use Rattle.words.specs.declared.Found.the-variants.{At, Nowhere}
+use Rattle.words.specs.Lists.{every, pairwise, firstAt, splice}
+use Rattle.words.specs.EveryLaws.{every-all}
+use Rattle.words.specs.FirstLaws.{found-at}
+use Rattle.sectors.specs.Sectors.{sec}
+use Rattle.sectors.specs.FlatLaws.{sec-in}
+use Rattle.counts.specs.declared.Geo.{Geo}
+use Rattle.counts.specs.Geometry.{geoOk}
+use Rattle.counts.specs.GeoLaws.{limits}
+use Rattle.entries.specs.declared.Version.{Version}
+use Rattle.entries.specs.declared.Version.the-variants.{Absent, Present}
+use Rattle.entries.specs.Entries.{shown, goodName}
+use Rattle.entries.specs.PassLaws.{Passes, shown-run}
+use Rattle.directory.specs.Directory.{entriesOf, spotOf, apart, named}
+use Rattle.directory.specs.SpotLaws.{wide-at, at-spot}
+use Rattle.directory.specs.NameLaws.{named-true}
+use Rattle.card.specs.declared.Line.{Line}
+use Rattle.card.specs.Plan.{Plan, guard, need, ended, doIt, refused, done, Got}
+use Rattle.card.specs.Files.{filesOf, contentOf, runOf, runAt, getPlan, getEnd, listPlan, listEnd}
+use Rattle.card.specs.SoundLaws.{View, entry-passes}
+use Rattle.promises.specs.PlainList.{Item, lookup}
+use Rattle.promises.specs.PlainCalls.{Names, plainGet, Lines, none-left, one-more}
+use Rattle.promises.specs.ListLaws.{isWide, content-length, listOf, list-good, list-told, list-alone, look-none, look-some}
+
+pub lines-length : {xs : List Item} {ls : List Line} → Lines xs ls → length xs ≡ length ls
+lines-length none-left = refl
+lines-length (one-more t r) = ap suc (lines-length r)
+
+-- every entry of an image of the right length has 128 bytes
+pub entry-wide : (g : Geo) (img : List ℕ) → geoOk g ≡ true → length img ≡ 512 * g .s → (j : ℕ) → j < length (entriesOf g (sec img)) → length (getD (entriesOf g (sec img)) j []) ≡ 128
+entry-wide g img ok l j h =
+    let (S, e) = at-spot g (sec img) j [] h in
+    ap length e ∙ wide-at (sec img (spotOf g j .sector)) (spotOf g j .slot) [] (sec-in img (g .s) (spotOf g j .sector) l (omega (arith, S .high, limits g ok .sLow))) (S .four)
+
+pub all-wide : (g : Geo) (img : List ℕ) → geoOk g ≡ true → length img ≡ 512 * g .s → every isWide (entriesOf g (sec img)) ≡ true
+all-wide g img ok l = every-all isWide (entriesOf g (sec img)) [] (λ j h. eq-eqb _ _ (entry-wide g img ok l j h))
+
+-- ---- one view that passes
+
+module _ (g : Geo) (bound : ℕ) (tab tc img : List ℕ) (ok : geoOk g ≡ true) (sized : length img ≡ 512 * g .s) (U : View g bound tab (sec img))
+    (alone : pairwise (apart tab tc) (entriesOf g (sec img)) ≡ true) where
+  abbrev ps : List (List ℕ)
+  ps = entriesOf g (sec img)
+
+  pub view-names : Names (listOf tab img ps)
+  view-names = record { good = list-good tab img g bound ps (U .entries) (all-wide g img ok sized); alone = list-alone tab img tc ps alone }
+
+  pub view-told : Lines (listOf tab img ps) (filesOf tab ps)
+  view-told = list-told tab img g bound ps (U .entries) (all-wide g img ok sized) sized
+
+  -- the content that place j has is as long as its run says
+  found-length : (n : List ℕ) (j : ℕ) → firstAt (named tab tab n) 0 ps ≡ At j → length (contentOf img (runAt g tab img j)) ≡ runAt g tab img j .bytes
+  unfolding runAt
+  found-length n j e =
+      let (l, t) = found-at (named tab tab n) [] ps j e in
+      let here = ⊎-elim (λ q. q) (λ q. q) (named-true tab tab n (getD ps j []) t .0) in
+      go (shown tab (getD ps j [])) refl here (entry-passes g bound tab (sec img) j [] U l)
+    where
+      go : (v : Version) → shown tab (getD ps j []) ≡ v → (shown tab (getD ps j []) ≡ Absent → ⊥) → Passes g bound tab (getD ps j [])
+          → length (contentOf img (runOf (shown tab (getD ps j [])))) ≡ runOf (shown tab (getD ps j [])) .bytes
+      go Absent q o P = absurd (o q)
+      go (Present r) q o P = rw q (unfold runOf in content-length g img r sized (shown-run g tab (getD ps j []) (P .wf) q))
+
+  abbrev kept : List ℕ → ℕ → Got
+  kept out k = record { answer = refused k; out = out }
+
+  abbrev filled : List ℕ → ℕ → ℕ → Got
+  filled out j a = record { answer = done (runAt g tab img j .bytes); out = splice out 0 (contentOf img (runAt g tab img j)) }
+
+  fill-or-10 : (out : List ℕ) (j : ℕ) → length (contentOf img (runAt g tab img j)) ≡ runAt g tab img j .bytes → (t : Bool) → leb (runAt g tab img j .bytes) (length out) ≡ t
+      → ended (guard 5 true (need 6 (At j) (λ i. guard 10 (leb (runAt g tab img i .bytes) (length out)) (doIt i 0)))) (kept out) (filled out)
+      ≡ plainGet (some (contentOf img (runAt g tab img j))) out
+  unfolding ended guard need plainGet
+  fill-or-10 out j b true h = rw (b, h)
+  fill-or-10 out j b false h = rw (b, h)
+
+  none-6 : (out : List ℕ) (f : ℕ → Plan) → ended (guard 5 true (need 6 Nowhere f)) (kept out) (filled out) ≡ plainGet none out
+  unfolding ended guard need plainGet
+  none-6 out f = refl
+
+  look-at : (n : List ℕ) (j : ℕ) → firstAt (named tab tab n) 0 ps ≡ At j → lookup n (listOf tab img ps) ≡ some (contentOf img (runAt g tab img j))
+  unfolding runAt
+  look-at n j e =
+      let (i, z, q) = look-some tab img n 0 j ps e in
+      let y : i ≡ j = omega arith in
+      q ∙ rw y
+
+  pub view-get : (n out : List ℕ) → goodName n ≡ true → getEnd g tab img out (getPlan g tab img n out) ≡ plainGet (lookup n (listOf tab img ps)) out
+  unfolding getEnd getPlan
+  view-get n out good = rw good (go (firstAt (named tab tab n) 0 ps) refl)
+    where
+      go : (o : Found) → firstAt (named tab tab n) 0 ps ≡ o
+          → ended (guard 5 true (need 6 (firstAt (named tab tab n) 0 ps) (λ j. guard 10 (leb (runAt g tab img j .bytes) (length out)) (doIt j 0)))) (kept out) (filled out)
+          ≡ plainGet (lookup n (listOf tab img ps)) out
+      go Nowhere e = rw (e, look-none tab img n 0 ps e) (none-6 out (λ j. guard 10 (leb (runAt g tab img j .bytes) (length out)) (doIt j 0)))
+      go (At j) e =
+          rw (e, look-at n j e) (fill-or-10 out j (found-length n j e) (leb (runAt g tab img j .bytes) (length out)) refl)
+
+  pub view-list : (lines : List Line) → length (listOf tab img ps) ≤ length lines
+      → listEnd (filesOf tab ps) lines (listPlan (filesOf tab ps) lines)
+      ≡ record { answer = done (length (listOf tab img ps)); lines = filesOf tab ps ++ drop (length (listOf tab img ps)) lines }
+  unfolding listEnd listPlan guard ended
+  view-list lines h =
+      let e : length (listOf tab img ps) ≡ length (filesOf tab ps) = lines-length view-told in
+      let t : leb (length (filesOf tab ps)) (length lines) ≡ true = le-leb (length (filesOf tab ps)) (length lines) (omega arith) in
+      rw (t, e)
