@@ -1,0 +1,181 @@
+//! Put, remove, get, list and free: the calls on the working image.
+
+use super::directory::{Stamp, StoredName, Version, ABSENT};
+use super::image::{bytes_of, set_bit, set_word, SECTOR};
+use super::session::{Open, Session};
+use super::view::{Line, View};
+use super::{number, BAD_NAME, NO_ENTRY, NO_FILE, NO_ROOM, SHORT_OUTPUT, WORN};
+use std::ops::Range;
+
+/// Stores a whole file under a name.
+pub fn put(session: &Session, work: &mut [u8], name: &[u8], content: &[u8]) -> u32 {
+    number(try_put(session, work, name, content))
+}
+
+fn try_put(session: &Session, work: &mut [u8], name: &[u8], content: &[u8]) -> Result<(), u32> {
+    let (open, name) = ready_to_change(session, work, name)?;
+    let (present, cut) = (open.present(work), open.cut(work));
+    let i = entry_for(&present, &cut, &name).ok_or(NO_ENTRY)?;
+    let run = room_for(&present, &cut, content.len()).ok_or(NO_ROOM)?;
+    let earlier = present.shown(i).run();
+    let version = Version {
+        state: 1,
+        start: run.start,
+        sectors: run.end - run.start,
+        bytes: content.len() as u32,
+    };
+    write_content(work, &run, content);
+    change_bitmap(&open, work, run, earlier);
+    change_entry(&open, work, i, name, version);
+    Ok(())
+}
+
+/// Removes a file of the present view.
+pub fn remove(session: &Session, work: &mut [u8], name: &[u8]) -> u32 {
+    number(try_remove(session, work, name))
+}
+
+fn try_remove(session: &Session, work: &mut [u8], name: &[u8]) -> Result<(), u32> {
+    let (open, name) = ready_to_change(session, work, name)?;
+    let present = open.present(work);
+    let i = present.find(&name).ok_or(NO_FILE)?;
+    let earlier = present.shown(i).run();
+    change_bitmap(&open, work, 0..0, earlier);
+    change_entry(&open, work, i, name, ABSENT);
+    Ok(())
+}
+
+/// Fills the first bytes of the output with a file and counts them.
+pub fn get(session: &Session, work: &[u8], name: &[u8], out: &mut [u8]) -> Result<u32, u32> {
+    let open = session.fitting(work)?;
+    get_shown(&open.present(work), name, out)
+}
+
+/// Fills the first lines with the present files and counts them.
+pub fn list(session: &Session, work: &[u8], lines: &mut [Line]) -> Result<u32, u32> {
+    let open = session.fitting(work)?;
+    list_shown(&open.present(work), lines)
+}
+
+/// Counts the clear bits of the present bitmap.
+pub fn free(session: &Session, work: &[u8]) -> Result<u32, u32> {
+    let open = session.fitting(work)?;
+    Ok(open.present(work).clear_bits())
+}
+
+/// Get over the files of a view: 5, 6, 10.
+pub fn get_shown(view: &View, name: &[u8], out: &mut [u8]) -> Result<u32, u32> {
+    let name = StoredName::from_given(name).ok_or(BAD_NAME)?;
+    let i = view.find(&name).ok_or(NO_FILE)?;
+    let Version { start, bytes, .. } = view.shown(i);
+    let output = out.get_mut(..bytes as usize).ok_or(SHORT_OUTPUT)?;
+    let at = start as usize * SECTOR;
+    output.copy_from_slice(&view.image[at..at + bytes as usize]);
+    Ok(bytes)
+}
+
+/// List over the files of a view: 10.
+pub fn list_shown(view: &View, lines: &mut [Line]) -> Result<u32, u32> {
+    let shown = view.lines();
+    let output = lines.get_mut(..shown.len()).ok_or(SHORT_OUTPUT)?;
+    output.copy_from_slice(&shown);
+    Ok(shown.len() as u32)
+}
+
+/// A session that can change files, and a good name: 4, 2, 9, 5.
+fn ready_to_change(session: &Session, work: &[u8], name: &[u8]) -> Result<(Open, StoredName), u32> {
+    let open = session.fitting(work)?;
+    if open.worn {
+        return Err(WORN);
+    }
+    let name = StoredName::from_given(name).ok_or(BAD_NAME)?;
+    Ok((open, name))
+}
+
+/// The entry of a name present in either view, or the lowest entry that is
+/// absent in both.
+fn entry_for(present: &View, cut: &View, name: &StoredName) -> Option<usize> {
+    let in_either = |i: &usize| present.shown(*i).present() || cut.shown(*i).present();
+    let mut entries = 0..present.geometry.entries();
+    let of_name = entries
+        .clone()
+        .find(|i| in_either(i) && present.entry(*i).name == *name);
+    of_name.or_else(|| entries.find(|i| !in_either(i)))
+}
+
+/// The lowest run of data sectors free in both views for so many bytes;
+/// 0 bytes take none, from 0.
+fn room_for(present: &View, cut: &View, bytes: usize) -> Option<Range<u32>> {
+    let (f, s) = (present.geometry.f(), present.geometry.s());
+    let sectors = u32::try_from(bytes.div_ceil(SECTOR)).ok()?;
+    if sectors == 0 {
+        return Some(0..0);
+    }
+    let last = s.checked_sub(sectors)?;
+    let free = |sector: u32| !present.in_use(sector) && !cut.in_use(sector);
+    let start = (f..=last).find(|start| (*start..*start + sectors).all(free))?;
+    Some(start..start + sectors)
+}
+
+/// Writes content to a run and fills the last sector with zeros.
+fn write_content(work: &mut [u8], run: &Range<u32>, content: &[u8]) {
+    for (sector, part) in run.clone().zip(content.chunks(SECTOR)) {
+        let place = &mut work[bytes_of(sector)];
+        place.fill(0);
+        place[..part.len()].copy_from_slice(part);
+    }
+}
+
+/// Sets the bits of the sectors taken and clears those given back, in the
+/// apage of this transaction. Where no bit changes nothing is touched.
+fn change_bitmap(open: &Open, work: &mut [u8], taken: Range<u32>, given_back: Range<u32>) {
+    if taken.is_empty() && given_back.is_empty() {
+        return;
+    }
+    let page = apage_to_change(open, work);
+    for sector in taken {
+        set_bit(work, page, sector, true);
+    }
+    for sector in given_back {
+        set_bit(work, page, sector, false);
+    }
+}
+
+/// Stamps the index (c, t), with A a copy of the apage shown before, unless
+/// that was done earlier in this transaction. Gives A.
+fn apage_to_change(open: &Open, work: &mut [u8]) -> u32 {
+    let index = open.geometry.index();
+    let view = open.present(work);
+    let (stamp, (a, b)) = (view.index_stamp(), view.pages());
+    if stamp == now(open) {
+        return a;
+    }
+    let (a, b) = if view.alive(stamp) { (b, a) } else { (a, b) };
+    work.copy_within(bytes_of(b), bytes_of(a).start);
+    for (i, value) in [open.c, open.tx, a, b].into_iter().enumerate() {
+        set_word(work, index, i, value);
+    }
+    a
+}
+
+/// Gives entry `i` a name and a new version, stamped (c, t). The first time
+/// in a transaction the version shown before becomes or stays the old one.
+fn change_entry(open: &Open, work: &mut [u8], i: usize, name: StoredName, version: Version) {
+    let view = open.present(work);
+    let mut entry = view.entry(i);
+    if entry.stamp != now(open) && view.alive(entry.stamp) {
+        entry.old = entry.new;
+    }
+    entry.name = name;
+    entry.new = version;
+    entry.stamp = now(open);
+    entry.store(work, &open.geometry, i);
+}
+
+/// The stamp (c, t).
+fn now(open: &Open) -> Stamp {
+    Stamp {
+        cc: open.c,
+        txc: open.tx,
+    }
+}

@@ -1,0 +1,138 @@
+//! The card writes of mount, sync and unmount, one sector each, in order.
+//!
+//! A list has a barrier wherever all that was written before must have landed
+//! before what follows. The functions named `.._cut` do the first writes of a
+//! call and stop there, as a cut inside the call would: they change the card
+//! alone, for the cut loses the working image and ends the session.
+
+use super::image::{bytes_of, sector_of, set_word, word, Geometry, SECTOR};
+use super::rules::sound_card;
+use super::session::{Open, Session};
+use super::{number, BAD_GEOMETRY, NO_COUNT_LEFT, TOP, WORN};
+
+/// One step of a call.
+#[derive(Clone, Debug, PartialEq, Eq)]
+pub enum Step {
+    /// A sector of the card is written.
+    Write {
+        sector: u32,
+        content: Box<[u8; SECTOR]>,
+    },
+    /// What was written so far, also by earlier calls, lands before the rest.
+    Barrier,
+}
+
+/// The steps of a mount: sector 0 with count C + 1, which lands before
+/// anything else of the session.
+pub fn of_mount(card: &[u8], work: &[u8]) -> Result<Vec<Step>, u32> {
+    let geometry = sound_and_of_one_length(card, work)?;
+    let c = word(card, 0, 0);
+    if c == geometry.n() {
+        return Err(NO_COUNT_LEFT);
+    }
+    Ok(vec![sector_0_with(card, c + 1), Step::Barrier])
+}
+
+/// The steps of a sync: every sector but the table in rising order, then the
+/// table sector that holds word c, which has landed when the sync has ended.
+pub fn of_sync(session: &Session, card: &[u8], work: &[u8]) -> Result<Vec<Step>, u32> {
+    let open = session.fitting_card(card, work)?;
+    if open.worn {
+        return Err(WORN);
+    }
+    Ok(sync_of(&open, work))
+}
+
+/// The steps of an unmount: sync's, then sector 0 with count c. A worn
+/// session has none, and one that becomes worn has sync's alone.
+pub fn of_unmount(session: &Session, card: &[u8], work: &[u8]) -> Result<Vec<Step>, u32> {
+    let open = session.fitting_card(card, work)?;
+    if open.worn {
+        return Ok(Vec::new());
+    }
+    let mut steps = sync_of(&open, work);
+    if open.tx < TOP {
+        steps.push(sector_0_with(work, open.c));
+    }
+    Ok(steps)
+}
+
+/// How many writes a list has.
+pub fn writes(steps: &[Step]) -> usize {
+    steps.iter().filter(|s| **s != Step::Barrier).count()
+}
+
+/// Does the first `k` writes of a list, or all if it has fewer.
+pub fn first_writes(card: &mut [u8], steps: &[Step], k: usize) {
+    let writes = steps.iter().filter_map(|step| match step {
+        Step::Write { sector, content } => Some((sector, content)),
+        Step::Barrier => None,
+    });
+    for (sector, content) in writes.take(k) {
+        card[bytes_of(*sector)].copy_from_slice(content.as_slice());
+    }
+}
+
+/// A mount that is cut after its first `k` writes.
+pub fn mount_cut(card: &mut [u8], work: &[u8], k: usize) -> u32 {
+    let steps = of_mount(card, work);
+    cut_after(card, steps, k)
+}
+
+/// A sync that is cut after its first `k` writes.
+pub fn sync_cut(session: &Session, card: &mut [u8], work: &[u8], k: usize) -> u32 {
+    let steps = of_sync(session, card, work);
+    cut_after(card, steps, k)
+}
+
+/// An unmount that is cut after its first `k` writes.
+pub fn unmount_cut(session: &Session, card: &mut [u8], work: &[u8], k: usize) -> u32 {
+    let steps = of_unmount(session, card, work);
+    cut_after(card, steps, k)
+}
+
+fn cut_after(card: &mut [u8], steps: Result<Vec<Step>, u32>, k: usize) -> u32 {
+    number(steps.map(|steps| first_writes(card, &steps, k)))
+}
+
+/// The geometry of a sound card with a working image of its length: 1, 2.
+fn sound_and_of_one_length(card: &[u8], work: &[u8]) -> Result<Geometry, u32> {
+    if card.len() != work.len() {
+        return Err(BAD_GEOMETRY);
+    }
+    Ok(sound_card(card)?.geometry)
+}
+
+fn sync_of(open: &Open, work: &[u8]) -> Vec<Step> {
+    let g = &open.geometry;
+    let mut steps = vec![write_of(work, 0)];
+    steps.extend((g.index()..g.s()).map(|sector| write_of(work, sector)));
+    steps.extend([Step::Barrier, table_step(open, work), Step::Barrier]);
+    steps
+}
+
+/// The table sector that holds word c, with word c = t.
+fn table_step(open: &Open, work: &[u8]) -> Step {
+    let sector = open.geometry.table_sector(open.c);
+    let mut content = sector_of(work, sector);
+    set_word(&mut content, 0, (open.c % 128) as usize, open.tx);
+    write(sector, content)
+}
+
+fn write_of(image: &[u8], sector: u32) -> Step {
+    write(sector, sector_of(image, sector))
+}
+
+/// Sector 0 of an image with another crash count.
+fn sector_0_with(image: &[u8], count: u32) -> Step {
+    let mut content = sector_of(image, 0);
+    set_word(&mut content, 0, 0, count);
+    write(0, content)
+}
+
+fn write(sector: u32, content: [u8; SECTOR]) -> Step {
+    Step::Write {
+        sector,
+        content: Box::new(content),
+    }
+}
