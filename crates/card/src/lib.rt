@@ -3,12 +3,6 @@ ghost use mathlib.Core.Path.{_≡_};
 ghost use Rattle.card.specs.Plan.{refused, done};
 use entries::Run;
 
-pub mod fresh; // fresh.rt: a fresh card, and make
-pub mod marks; // marks.rt: the bitmap against the files
-pub mod files; // files.rt: the files that a view shows
-pub mod sound; // sound.rt: when a card is sound
-pub mod reading; // reading.rt: reading a card without a session
-
 // One line a file: name, bytes, start, sectors.
 pub struct Line {
     pub size: u32,

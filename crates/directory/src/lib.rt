@@ -25,7 +25,7 @@ pub fn entries_ok(card: &[u8], g: Geo, v: View, bound: u32) -> bool
     while j < n {
         let at = first + 128 * j;
         let end = at + 128;
-        if !entries::entry_ok(card, g, v, bound, &card[at..end]) {
+        if !rules::entry_ok(card, g, v, bound, &card[at..end]) {
             return false;
         }
         j += 1;
@@ -48,7 +48,7 @@ pub fn apart(card: &[u8], g: Geo, v: View, w: View, p: &[u8], q: &[u8]) -> bool
     requires { ⌜ LaidOut g (now card) × (length (now p) ≡ 128) × (length (now q) ≡ 128) ⌝ }
     ensures { λ r. ⌜ r ≡ apart (tableIn g v (sec (now (card .entry)))) (tableIn g w (sec (now (card .entry)))) (now (p .entry)) (now (q .entry)) ⌝ }
 {
-    is_gone(card, g, v, w, p) | is_gone(card, g, v, w, q) | !entries::same_name(p, q)
+    is_gone(card, g, v, w, p) | is_gone(card, g, v, w, q) | !rules::same_name(p, q)
 }
 
 // Whether entry i stands apart from each later one.
@@ -93,7 +93,7 @@ pub fn is_named(card: &[u8], g: Geo, v: View, w: View, name: &[u8], p: &[u8]) ->
     requires { ⌜ LaidOut g (now card) × (length (now p) ≡ 128) ⌝ }
     ensures { λ r. ⌜ r ≡ named (tableIn g v (sec (now (card .entry)))) (tableIn g w (sec (now (card .entry)))) (now (name .entry)) (now (p .entry)) ⌝ }
 {
-    !is_gone(card, g, v, w, p) & entries::has_name(name, p)
+    !is_gone(card, g, v, w, p) & rules::has_name(name, p)
 }
 
 // The first entry that shows, in either view, a file of that name.

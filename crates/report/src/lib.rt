@@ -43,7 +43,7 @@ fn print_lines(card: &[u8], n: u32)
 {
     let mut i: u32 = 0;
     while i < n {
-        let l = card::reading::read_line_in(card, i);
+        let l = reading::read_line_in(card, i);
         let line = l.line;
         print_line(line);
         i += 1;
@@ -52,7 +52,7 @@ fn print_lines(card: &[u8], n: u32)
 
 // The whole report: C and N; files shown; a line a file; clear bits of the shown bitmap.
 pub fn report(card: &[u8]) {
-    let r = card::reading::read(card);
+    let r = reading::read(card);
     if r.number != 0 {
         refused(r.number);
         return;

@@ -1,0 +1,36 @@
+-- What the searches found is what the change asks. Assumes nothing.
+use mathlib.Core.Path.{_∙_}
+use native.Mathlib.Omega.{arith}
+use borrow.Author.Needs.{needs}
+use denote.Ref.{now}
+use Rattle.store.specs.Edit.{putRun, putWork}
+use Rattle.store.specs.RoomLaws.{can-put}
+use Rattle.change.proofs.put_in.Statement.{statement}
+use Rattle.change.proofs.put_in.Tie as tie
+
+sectors-of-requires : tie.Need-sectors-of-requires
+sectors-of-requires c κs = search needs
+
+cast-k : tie.Need-cast-k
+cast-k c = let a = c .before .before .before .before .args in let p = c .before .before .before .before .pre in let e = can-put (a .s) (now (a .work)) (now (a .name)) (now (a .content)) (a .j) (a .a) (p .0) (p .1 .0) (p .1 .1 .0) (p .1 .1 .1) (c .sectors-of .ensures) in omega (arith, e .top)
+
+cast-t11 : tie.Need-cast-t11
+cast-t11 c = let a = c .before .before .before .before .args in let p = c .before .before .before .before .pre in let e = can-put (a .s) (now (a .work)) (now (a .name)) (now (a .content)) (a .j) (a .a) (p .0) (p .1 .0) (p .1 .1 .0) (p .1 .1 .1) (c .sectors-of .ensures) in omega (arith, e .top)
+
+cast-t11-2 : tie.Need-cast-t11-2
+cast-t11-2 c = let a = c .before .before .before .before .args in let p = c .before .before .before .before .pre in let e = can-put (a .s) (now (a .work)) (now (a .name)) (now (a .content)) (a .j) (a .a) (p .0) (p .1 .0) (p .1 .1 .0) (p .1 .1 .1) (c .sectors-of .ensures) in omega (arith, e .top, e .enough)
+
+edit-requires : tie.Need-edit-requires
+edit-requires c κs = let p = c .before .before .before .before .before .pre in can-put _ _ _ _ _ _ (p .0) (p .1 .0) (p .1 .1 .0) (p .1 .1 .1) (c .before .sectors-of .ensures)
+
+same-length : tie.Need-same-length
+same-length c = search needs
+
+returns : tie.Need-returns
+unfolding putWork putRun
+returns c = c .before .before .edit .ensures ∙ rw (c .before .before .before .before .sectors-of .ensures)
+
+pub put-in-spec : {M : Type 1} → statement M
+put-in-spec =
+    tie.close
+    (tie.spec sectors-of-requires cast-k cast-t11 cast-t11-2 edit-requires same-length returns)

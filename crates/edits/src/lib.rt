@@ -1,0 +1,69 @@
+// Put and remove: a call's tests in the order of the table, then the change.
+ghost use mathlib.Core.Path.{_≡_};
+ghost use Rattle.store.specs.Edit.{put, remove};
+use card::Answer;
+use card::refusal;
+use card::success;
+use change::put_in;
+use change::remove_in;
+use find::put_place;
+use find::run_in;
+use find::sectors_of;
+use session::Session;
+use words::Found;
+
+// "put 4, 2, 9, 5, 7, 8"
+pub fn put(session: Session, work: &mut [u8], name: &[u8], content: &[u8]) -> Answer
+    ensures { λ r. ⌜ (r ≡ put session (now (work .entry)) (now (name .entry)) (now (content .entry)) .answer) × (now (work .exit) ≡ put session (now (work .entry)) (now (name .entry)) (now (content .entry)) .image) ⌝ }
+{
+    let Session::Open(s) = session else {
+        return refusal(4);
+    };
+    let fit = fit::fits(s, work);
+    if !fit {
+        return refusal(2);
+    }
+    if s.worn {
+        return refusal(9);
+    }
+    let good = rules::good_name(name);
+    if !good {
+        return refusal(5);
+    }
+    let Found::At(j) = put_place(s, work, name) else {
+        return refusal(7);
+    };
+    let k = sectors_of(content);
+    let Found::At(a) = run_in(s, work, k) else {
+        return refusal(8);
+    };
+    put_in(s, work, name, content, j, a);
+    success(0)
+}
+
+// "remove 4, 2, 9, 5, 6"
+pub fn remove(session: Session, work: &mut [u8], name: &[u8]) -> Answer
+    ensures { λ r. ⌜ (r ≡ remove session (now (work .entry)) (now (name .entry)) .answer) × (now (work .exit) ≡ remove session (now (work .entry)) (now (name .entry)) .image) ⌝ }
+{
+    let Session::Open(s) = session else {
+        return refusal(4);
+    };
+    let fit = fit::fits(s, work);
+    if !fit {
+        return refusal(2);
+    }
+    if s.worn {
+        return refusal(9);
+    }
+    let good = rules::good_name(name);
+    if !good {
+        return refusal(5);
+    }
+    let g = s.geo;
+    let present = session::present_view(s);
+    let Found::At(j) = directory::find_name(work, g, present, present, name) else {
+        return refusal(6);
+    };
+    remove_in(s, work, name, j);
+    success(0)
+}

@@ -1,0 +1,59 @@
+-- The bytes lent are those of entry j. Assumes nothing.
+use mathlib.Core.Path.{ap, _∙_}
+use borrow.Author.Needs.{needs}
+use Rattle.card.specs.LineLaws.{line-here, lineOf}
+use Rattle.files.proofs.line_at.Statement.{statement}
+use Rattle.files.proofs.line_at.Tie as tie
+
+cast-at : tie.Need-cast-at
+cast-at c = search needs
+
+add-at : tie.Need-add-at
+add-at c = search needs
+
+mul-at : tie.Need-mul-at
+mul-at c = search needs
+
+mul-at-2 : tie.Need-mul-at-2
+mul-at-2 c = search needs
+
+add-at-2 : tie.Need-add-at-2
+add-at-2 c = search needs
+
+add-end : tie.Need-add-end
+add-end c = search needs
+
+run-at-requires : tie.Need-run-at-requires
+run-at-requires c κs = search needs
+
+sub-line-of : tie.Need-sub-line-of
+sub-line-of c = search needs
+
+part-line-of-start : tie.Need-part-line-of-start
+part-line-of-start c = search needs
+
+part-line-of-end : tie.Need-part-line-of-end
+part-line-of-end c = search needs
+
+line-of-requires : tie.Need-line-of-requires
+line-of-requires c κs = search needs
+
+returns : tie.Need-returns
+returns c = line-here _ _ _ (c .before .before .before .before .before .pre .1) _ (c .line-of .ensures) ∙ ap (lineOf _) (c .before .before .run-at .ensures)
+
+pub line-at-spec : {M : Type 1} → statement M
+line-at-spec =
+    tie.close
+    (tie.spec
+    cast-at
+    add-at
+    mul-at
+    mul-at-2
+    add-at-2
+    add-end
+    run-at-requires
+    sub-line-of
+    part-line-of-start
+    part-line-of-end
+    line-of-requires
+    returns)

@@ -1,0 +1,58 @@
+-- The bytes lent are those of entry j. Assumes nothing.
+use borrow.Author.Needs.{needs}
+use Rattle.card.specs.LineLaws.{run-here}
+use Rattle.files.proofs.run_at.Statement.{statement}
+use Rattle.files.proofs.run_at.Tie as tie
+
+cast-at : tie.Need-cast-at
+cast-at c = search needs
+
+add-at : tie.Need-add-at
+add-at c = search needs
+
+mul-at : tie.Need-mul-at
+mul-at c = search needs
+
+mul-at-2 : tie.Need-mul-at-2
+mul-at-2 c = search needs
+
+add-at-2 : tie.Need-add-at-2
+add-at-2 c = search needs
+
+add-end : tie.Need-add-end
+add-end c = search needs
+
+sub-shown : tie.Need-sub-shown
+sub-shown c = search needs
+
+part-shown-start : tie.Need-part-shown-start
+part-shown-start c = search needs
+
+part-shown-end : tie.Need-part-shown-end
+part-shown-end c = search needs
+
+shown-requires : tie.Need-shown-requires
+shown-requires c κs = search needs
+
+run-of-requires : tie.Need-run-of-requires
+run-of-requires c κs = search needs
+
+returns : tie.Need-returns
+returns c = run-here _ _ _ (c .before .before .before .before .before .pre .1) _ (c .before .shown .ensures) (c .run-of .ensures)
+
+pub run-at-spec : {M : Type 1} → statement M
+run-at-spec =
+    tie.close
+    (tie.spec
+    cast-at
+    add-at
+    mul-at
+    mul-at-2
+    add-at-2
+    add-end
+    sub-shown
+    part-shown-start
+    part-shown-end
+    shown-requires
+    run-of-requires
+    returns)

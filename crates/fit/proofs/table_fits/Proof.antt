@@ -1,0 +1,36 @@
+-- `session::table_fits` meets its contract: by what its calls ensure. Assumes nothing.
+use Rattle.session.specs.Views.{cutTable}
+use Rattle.session.specs.FitTests.{tableFits}
+use borrow.Author.Needs.{needs}
+use Rattle.fit.proofs.table_fits.Statement.{statement}
+use Rattle.fit.proofs.table_fits.Tie as tie
+
+head-ok-requires : tie.Need-head-ok-requires
+head-ok-requires c κs = search needs
+
+table-word-requires : tie.Need-table-word-requires
+table-word-requires c κs = search needs
+
+word-ok-requires : tie.Need-word-ok-requires
+word-ok-requires c κs = search needs
+
+table-max-requires : tie.Need-table-max-requires
+table-max-requires c κs = search needs
+
+zero-past-requires : tie.Need-zero-past-requires
+zero-past-requires c κs = search needs
+
+returns : tie.Need-returns
+unfolding tableFits cutTable
+returns c = rw (c .before .before .before .before .head-ok .ensures, c .before .before .word-ok .ensures, c .before .before .before .table-word .ensures, c .before .table-max .ensures, c .zero-past .ensures)
+
+pub table-fits-spec : {M : Type 1} → statement M
+table-fits-spec =
+    tie.close
+    (tie.spec
+    head-ok-requires
+    table-word-requires
+    word-ok-requires
+    table-max-requires
+    zero-past-requires
+    returns)

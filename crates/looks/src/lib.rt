@@ -1,0 +1,78 @@
+// Looking at a session's present view: a file, one line of its list, and its free sectors.
+ghost use mathlib.Core.Path.{_≡_};
+ghost use Rattle.card.specs.Plan.{refused};
+ghost use Rattle.card.specs.Files.{noLine};
+ghost use Rattle.store.specs.Look.{get, line, free};
+use card::Answer;
+use card::Lined;
+use card::refusal;
+use card::success;
+use files::clear_in;
+use files::file_count;
+use files::get_in;
+use files::line_in;
+use files::no_line;
+use files::one_if;
+use session::Session;
+
+// No line, and the number of a refusal.
+fn unlined(k: u32) -> Lined
+    ensures { λ r. ⌜ r ≡ record { answer = refused k; line = noLine } ⌝ }
+{
+    let answer = refusal(k);
+    let line = no_line();
+    Lined { answer, line }
+}
+
+// "free 4, 2"
+pub fn free(session: Session, work: &[u8]) -> Answer
+    ensures { λ r. ⌜ r ≡ free session (now (work .entry)) ⌝ }
+{
+    let Session::Open(s) = session else {
+        return refusal(4);
+    };
+    let fit = fit::fits(s, work);
+    if !fit {
+        return refusal(2);
+    }
+    let g = s.geo;
+    let present = session::present_view(s);
+    let n = clear_in(work, g, present);
+    success(n)
+}
+
+// The line at a position (4, 2); the count is 1 where there is one, else 0.
+pub fn line(session: Session, work: &[u8], i: u32) -> Lined
+    ensures { λ r. ⌜ r ≡ line session (now (work .entry)) i ⌝ }
+{
+    let Session::Open(s) = session else {
+        return unlined(4);
+    };
+    let fit = fit::fits(s, work);
+    if !fit {
+        return unlined(2);
+    }
+    let g = s.geo;
+    let present = session::present_view(s);
+    let n = file_count(work, g, present);
+    let line = line_in(work, g, present, i);
+    let one = one_if(i < n);
+    let answer = success(one);
+    Lined { answer, line }
+}
+
+// "get 4, 2, 5, 6, 10"
+pub fn get(session: Session, work: &[u8], name: &[u8], out: &mut [u8]) -> Answer
+    ensures { λ r. ⌜ (r ≡ get session (now (work .entry)) (now (name .entry)) (now (out .entry)) .answer) × (now (out .exit) ≡ get session (now (work .entry)) (now (name .entry)) (now (out .entry)) .out) ⌝ }
+{
+    let Session::Open(s) = session else {
+        return refusal(4);
+    };
+    let fit = fit::fits(s, work);
+    if !fit {
+        return refusal(2);
+    }
+    let g = s.geo;
+    let present = session::present_view(s);
+    get_in(work, g, present, name, out)
+}

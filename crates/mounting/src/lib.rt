@@ -1,0 +1,100 @@
+// The one write of mount, land, and the sectors that they and sync write.
+ghost use mathlib.Core.Path.{_≡_};
+ghost use mathlib.Core.Bool.{false};
+ghost use Prim.Native.Nat.{_+_, _*_, _≤_, _<_};
+ghost use lib.ListN.{length, take};
+ghost use Rattle.words.specs.Lists.{splice};
+ghost use Rattle.words.specs.Bytes.{wordBytes};
+ghost use Rattle.sectors.specs.Sectors.{sec, setSec, applySteps};
+ghost use Rattle.store.specs.Steps.{setCount, setWord, mountSteps};
+ghost use Rattle.store.specs.Mount.{openedFrom, mountDone};
+ghost use Rattle.store.specs.WriteLaws.{CanMount};
+use counts::CrashCount;
+use counts::TxCount;
+use sectors::Sector;
+use session::Opened;
+
+// ---- one word of an image
+
+// Puts the crash count into sector 0 of an image.
+pub fn set_count(img: &mut [u8], c: u32)
+    requires { ⌜ 4 ≤ length (now img) ⌝ }
+    ensures { λ _. ⌜ now (img .exit) ≡ setCount c (now (img .entry)) ⌝ }
+{
+    words::put_word(img, 0, c)
+}
+
+// Sets table word c of an image to t.
+pub fn set_word(img: &mut [u8], c: CrashCount, t: TxCount)
+    requires { ⌜ (c .0 < 65536) × (512 + 4 * c .0 + 4 ≤ length (now img)) ⌝ }
+    ensures { λ _. ⌜ now (img .exit) ≡ setWord (c .0) (t .0) (now (img .entry)) ⌝ }
+{
+    words::put_word(img, 512 + 4 * (c.0 as usize), t.0)
+}
+
+// Sector i of an image, with one word put at `at`.
+pub fn sector_with(img: &[u8], i: Sector, at: usize, w: u32) -> [u8; 512]
+    requires { ⌜ (512 * i .0 + 512 ≤ length (now img)) × (at + 4 ≤ 512) ⌝ }
+    ensures { λ r. ⌜ r ≡ splice (sec (now (img .entry)) (i .0)) at (wordBytes w) ⌝ }
+{
+    let from = 512 * (i.0 as usize);
+    let end = from + 512;
+    let mut block = [0u8; 512];
+    words::fill(&mut block, &img[from..end]);
+    words::put_word(&mut block, at, w);
+    block
+}
+
+// ---- mount
+
+// The first k steps of mount: "Mount writes C + 1 to sector 0 of the card".
+pub fn mount_steps(card: &mut [u8], k: usize)
+    requires { ⌜ CanMount (now card) ⌝ }
+    ensures { λ _. ⌜ now (card .exit) ≡ applySteps (take k (mountSteps (now (card .entry)))) (now (card .entry)) ⌝ }
+{
+    if k == 0 {
+        return;
+    }
+    let next = words::word_at(card, 0) + 1;
+    let block = sector_with(card, Sector(0), 0, next);
+    sectors::write_sector(card, Sector(0), &block)
+}
+
+// "The session has c = the old C and t = table word c, plus 1."
+pub fn opened_from(card: &[u8]) -> Opened
+    requires { ⌜ CanMount (now card) ⌝ }
+    ensures { λ r. ⌜ r ≡ openedFrom (now (card .entry)) ⌝ }
+{
+    let geo = counts::geo_of(card);
+    let c = CrashCount(words::word_at(card, 0));
+    let word = counts::table_word(card, geo, c);
+    Opened {
+        geo,
+        c,
+        t: TxCount(word + 1),
+        worn: false,
+    }
+}
+
+// "Mount writes C + 1 to sector 0 of the card, then copies the card to the working image."
+pub fn mount_in(card: &mut [u8], work: &mut [u8]) -> Opened
+    requires { ⌜ CanMount (now card) × (length (now work) ≡ length (now card)) ⌝ }
+    ensures { λ r. ⌜ (r ≡ openedFrom (now (card .entry))) × ((now (card .exit) ≡ mountDone (now (card .entry)) .card) × (now (work .exit) ≡ mountDone (now (card .entry)) .work)) ⌝ }
+{
+    let s = opened_from(card);
+    mount_steps(card, 2);
+    words::fill(work, card);
+    s
+}
+
+// ---- land
+
+// Sector i of the working image goes to the card.
+pub fn land_in(card: &mut [u8], work: &[u8], i: Sector)
+    requires { ⌜ (512 * i .0 + 512 ≤ length (now card)) × (512 * i .0 + 512 ≤ length (now work)) ⌝ }
+    ensures { λ _. ⌜ now (card .exit) ≡ setSec (now (card .entry)) (i .0) (sec (now (work .entry)) (i .0)) ⌝ }
+{
+    let at = 512 * (i.0 as usize);
+    let end = at + 512;
+    words::fill(&mut card[at..end], &work[at..end])
+}

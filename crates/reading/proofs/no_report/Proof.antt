@@ -1,0 +1,12 @@
+-- The definition, unfolded. Assumes nothing.
+use mathlib.Core.Path.{refl}
+use Rattle.card.specs.ReadLaws.{noReport}
+use Rattle.reading.proofs.no_report.Statement.{statement}
+use Rattle.reading.proofs.no_report.Tie as tie
+
+returns : tie.Need-returns
+unfolding noReport
+returns c = refl
+
+pub no-report-spec : {M : Type 1} → statement M
+no-report-spec = tie.close (tie.spec returns)

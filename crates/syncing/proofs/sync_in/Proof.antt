@@ -1,0 +1,37 @@
+-- All steps, then the word in the working image. Assumes nothing.
+use native.Mathlib.Omega.{arith}
+use borrow.Author.Needs.{needs}
+use Rattle.store.specs.Steps.{syncWork}
+use Rattle.store.specs.SyncLaws.{sync-all}
+use Rattle.syncing.proofs.sync_in.Statement.{statement}
+use Rattle.syncing.proofs.sync_in.Tie as tie
+
+sync-steps-requires : tie.Need-sync-steps-requires
+sync-steps-requires c κs = search needs
+
+set-word-requires : tie.Need-set-word-requires
+set-word-requires c κs = search needs
+
+after-sync-requires : tie.Need-after-sync-requires
+after-sync-requires c κs = search needs
+
+same-length : tie.Need-same-length
+same-length c = search needs
+
+same-length-2 : tie.Need-same-length-2
+same-length-2 c = search needs
+
+returns : tie.Need-returns
+unfolding syncWork
+returns c = (c .after-sync .ensures, (sync-all _ _ 4100 _ (omega arith) (c .before .before .before .before .before .before .before .sync-steps .ensures), c .before .before .before .set-word .ensures))
+
+pub sync-in-spec : {M : Type 1} → statement M
+sync-in-spec =
+    tie.close
+    (tie.spec
+    sync-steps-requires
+    set-word-requires
+    after-sync-requires
+    same-length
+    same-length-2
+    returns)
