@@ -1,0 +1,97 @@
+// The store for a host: six functions on numbers and lent bytes, each answering a number of the table.
+//
+// A slice crosses as a pointer and a length, an array `[u8; n]` as one pointer, a number as itself. No two lent buffers may overlap: a host can lend
+// one buffer twice, and what is promised leaves that out.
+//
+// A session crosses as 24 bytes, six words with the least byte first: state (0 closed, 1 open, 2 open and worn), S, T, D, c and t. The closed
+// session is 24 zeros. Any 24 bytes are taken: with state 0 they are the closed session whatever follows, and with a state above 2 an open session
+// that never fits. What reading a card gives crosses as 16 bytes, the words C, N, the file count and the clear bits.
+ghost use mathlib.Core.Path.{_≡_};
+ghost use Rattle.card.specs.Make.{make};
+ghost use Rattle.card.specs.Reading.{read};
+ghost use Rattle.store.specs.Edit.{put};
+ghost use Rattle.store.specs.Mount.{mount};
+ghost use Rattle.store.specs.Sync.{land, sync};
+ghost use Rattle.crossing.specs.Crossing.{geoWith, decoded, encoded, reported, kept};
+use cards::land;
+use cards::mount;
+use cards::sync;
+use counts::Geo;
+use crossing::decoded;
+use crossing::encoded;
+use crossing::report_bytes;
+use edits::put;
+use fresh::make;
+use reading::read;
+use sectors::Sector;
+
+// "make 1"
+#[no_mangle]
+pub extern "C" fn store_make(s: u32, t: u32, d: u32, card: &mut [u8]) -> u32
+    ensures { λ r. ⌜ (r ≡ make (geoWith s t d) (now (card .entry)) .answer .number) × (now (card .exit) ≡ make (geoWith s t d) (now (card .entry)) .image) ⌝ }
+{
+    let a = make(Geo { s, t, d }, card);
+    a.number
+}
+
+// Reading a card: on a refusal the output stays as lent.
+#[no_mangle]
+pub extern "C" fn store_read(card: &[u8], out: &mut [u8; 16]) -> u32
+    ensures { λ r. ⌜ (r ≡ read (now (card .entry)) .number) × (now (out .exit) ≡ reported (read (now (card .entry))) (now (out .entry))) ⌝ }
+{
+    let r = read(card);
+    if r.number != 0 {
+        return r.number;
+    }
+    *out = report_bytes(r);
+    r.number
+}
+
+// "mount 1, 2, 3"; a refused mount gives the closed session.
+#[no_mangle]
+pub extern "C" fn store_mount(card: &mut [u8], work: &mut [u8], session: &mut [u8; 24]) -> u32
+    ensures { λ r. ⌜ (r ≡ mount (now (card .entry)) (now (work .entry)) .answer .number) × ((now (session .exit) ≡ encoded (mount (now (card .entry)) (now (work .entry)) .session)) × ((now (card .exit) ≡ mount (now (card .entry)) (now (work .entry)) .card) × (now (work .exit) ≡ mount (now (card .entry)) (now (work .entry)) .work))) ⌝ }
+{
+    let o = mount(card, work);
+    let s = o.session;
+    *session = encoded(s);
+    o.answer.number
+}
+
+// "put 4, 2, 9, 5, 7, 8"
+#[no_mangle]
+pub extern "C" fn store_put(session: &[u8; 24], work: &mut [u8], name: &[u8], content: &[u8]) -> u32
+    ensures { λ r. ⌜ (r ≡ put (decoded (now (session .entry))) (now (work .entry)) (now (name .entry)) (now (content .entry)) .answer .number) × (now (work .exit) ≡ put (decoded (now (session .entry))) (now (work .entry)) (now (name .entry)) (now (content .entry)) .image) ⌝ }
+{
+    let b = *session;
+    let s = decoded(b);
+    let a = put(s, work, name, content);
+    a.number
+}
+
+// "sync 4, 1, 2, 9"; on a refusal the session's bytes stay as lent.
+#[no_mangle]
+pub extern "C" fn store_sync(session: &mut [u8; 24], card: &mut [u8], work: &mut [u8]) -> u32
+    ensures { λ r. ⌜ (r ≡ sync (decoded (now (session .entry))) (now (card .entry)) (now (work .entry)) .answer .number) × ((now (session .exit) ≡ kept (sync (decoded (now (session .entry))) (now (card .entry)) (now (work .entry))) (now (session .entry))) × ((now (card .exit) ≡ sync (decoded (now (session .entry))) (now (card .entry)) (now (work .entry)) .card) × (now (work .exit) ≡ sync (decoded (now (session .entry))) (now (card .entry)) (now (work .entry)) .work))) ⌝ }
+{
+    let b = *session;
+    let s = decoded(b);
+    let o = sync(s, card, work);
+    if o.answer.number != 0 {
+        return o.answer.number;
+    }
+    let next = o.session;
+    *session = encoded(next);
+    o.answer.number
+}
+
+// "land 4, 1, 2, 11"
+#[no_mangle]
+pub extern "C" fn store_land(session: &[u8; 24], card: &mut [u8], work: &[u8], sector: u32) -> u32
+    ensures { λ r. ⌜ (r ≡ land (decoded (now (session .entry))) (now (card .entry)) (now (work .entry)) sector .answer .number) × (now (card .exit) ≡ land (decoded (now (session .entry))) (now (card .entry)) (now (work .entry)) sector .image) ⌝ }
+{
+    let b = *session;
+    let s = decoded(b);
+    let a = land(s, card, work, Sector(sector));
+    a.number
+}
