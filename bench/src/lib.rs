@@ -1,8 +1,20 @@
 //! The bench of the store: a second version of every call, written from the
-//! paper alone, and the stored cards for the reading program's tests.
+//! paper alone, the stored cards for the reading program's tests, and the
+//! proved store's host functions, which are compared with it and measured.
 //!
-//! * [`plain`] holds the calls.
+//! * [`plain`] holds the calls of the second version.
 //! * [`stored`] holds the stored cards and the report expected for each.
+//! * [`host`] holds the six host functions of the proved store.
+//! * [`store`] is what both have in common.
+//! * [`measure`] times them and looks at their stack.
 
+#![deny(unsafe_code)]
+
+#[allow(unsafe_code)]
+pub mod host;
+pub mod measure;
 pub mod plain;
+#[allow(unsafe_code)]
+pub mod stack;
+pub mod store;
 pub mod stored;

@@ -77,16 +77,26 @@ impl View<'_> {
         (word(self.image, index, 2), word(self.image, index, 3))
     }
 
+    /// The sector of the shown apage. A and B must pass.
+    fn shown_page(&self) -> u32 {
+        let (a, b) = self.pages();
+        if self.alive(self.index_stamp()) {
+            a
+        } else {
+            b
+        }
+    }
+
     /// Whether the shown apage has the sector's bit set. A and B must pass.
     pub fn in_use(&self, sector: u32) -> bool {
-        let (a, b) = self.pages();
-        let page = if self.alive(self.index_stamp()) { a } else { b };
-        bit(self.image, page, sector)
+        bit(self.image, self.shown_page(), sector)
     }
 
     /// The clear bits of the shown apage. A and B must pass.
     pub fn clear_bits(&self) -> u32 {
-        (0..MOST_SECTORS).filter(|b| !self.in_use(*b)).count() as u32
+        let page = self.shown_page();
+        let clear = (0..MOST_SECTORS).filter(|b| !bit(self.image, page, *b));
+        clear.count() as u32
     }
 
     /// The lines of the shown files, in entry order.
@@ -168,6 +178,7 @@ impl View<'_> {
                 }
             }
         }
-        (0..MOST_SECTORS).all(|b| self.in_use(b) == expected[b as usize])
+        let page = self.shown_page();
+        (0..MOST_SECTORS).all(|b| bit(self.image, page, b) == expected[b as usize])
     }
 }

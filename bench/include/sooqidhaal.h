@@ -1,0 +1,105 @@
+/*
+ * Sooqidhaal: a file store on a lent card image, as six functions for a host.
+ *
+ * Link target/staticlib/libhost.a, which needs nothing but memcpy, memmove
+ * and memset.
+ *
+ * Images. A card is a byte buffer of 512 * S bytes that survives a cut; the
+ * working image is a second buffer of the same length that need not. The
+ * functions keep no pointer and allocate nothing.
+ *
+ * What is taken. Every call takes buffers of any length and content, any
+ * 24 bytes as a session, any name and any number, and always ends. What the
+ * caller answers for is C's own: each pointer is valid for its length (for the
+ * arrays: 16 and 24 bytes), also where the length is 0, it needs no alignment,
+ * and NO TWO LENT BUFFERS OVERLAP where one of them is written to. Nothing is
+ * promised for a buffer lent twice in one call.
+ *
+ * A session is 24 bytes, six words of 32 bits, least byte first: state
+ * (0 closed, 1 open, 2 open and worn), S, T, D, c, t. The closed session is
+ * 24 zero bytes; a state of 0 is closed whatever follows, and a state above 2
+ * is an open session that never fits. It is no secret and may be kept
+ * anywhere; a session that does not belong to the working image is refused.
+ *
+ * Numbers. Each function gives one of these. A refusal (not 0) changes no
+ * byte, but that a refused mount stores the closed session.
+ *
+ *    0  done
+ *    1  geometry outside the limits, or an image of the wrong length
+ *    2  the card is not sound, or the session does not fit
+ *    3  mount of a sound card whose crash counts are used up (C = N)
+ *    4  the session is closed
+ *    5  name length or byte outside the rule (1 to 32 bytes, each 33 to 126)
+ *    7  no entry for the name
+ *    8  no run of sectors free in both views
+ *    9  change or sync in a worn session
+ *   11  sector number S or more
+ *
+ * (6 and 10 belong to calls that are not among these.)
+ */
+#ifndef SOOQIDHAAL_H
+#define SOOQIDHAAL_H
+
+#include <stddef.h>
+#include <stdint.h>
+
+#ifdef __cplusplus
+extern "C" {
+#endif
+
+enum {
+    STORE_DONE = 0,
+    STORE_BAD_GEOMETRY = 1,
+    STORE_NOT_SOUND = 2,
+    STORE_NO_COUNT_LEFT = 3,
+    STORE_CLOSED = 4,
+    STORE_BAD_NAME = 5,
+    STORE_NO_ENTRY = 7,
+    STORE_NO_ROOM = 8,
+    STORE_WORN = 9,
+    STORE_NO_SECTOR = 11
+};
+
+/* Bytes of a sector, of a session and of what store_read gives. */
+#define STORE_SECTOR 512
+#define STORE_SESSION_BYTES 24
+#define STORE_REPORT_BYTES 16
+
+/* Makes a fresh card of s sectors, t of them table and d directory: 1. A make
+ * that gives 0 ends any session on the card. */
+uint32_t store_make(uint32_t s, uint32_t t, uint32_t d,
+                    uint8_t *card, size_t card_len);
+
+/* Reads a card, which needs no session: 1, 2. With 0, out holds four words:
+ * C (crash count), N (crash counts in all), files shown, free sectors. */
+uint32_t store_read(const uint8_t *card, size_t card_len, uint8_t out[16]);
+
+/* Mounts a card: 1, 2, 3. Sector 0 of the card gets the next crash count and
+ * must have landed before anything else of the session does; then the card is
+ * copied to work. session gets the open session, or the closed one. */
+uint32_t store_mount(uint8_t *card, size_t card_len,
+                     uint8_t *work, size_t work_len, uint8_t session[24]);
+
+/* Stores a whole file under a name, in the working image only:
+ * 4, 2, 9, 5, 7, 8. */
+uint32_t store_put(const uint8_t session[24], uint8_t *work, size_t work_len,
+                   const uint8_t *name, size_t name_len,
+                   const uint8_t *content, size_t content_len);
+
+/* Brings the working image to the card: 4, 1, 2, 9. Every sector but the table
+ * in rising order, then one sector of the table; a card that holds writes back
+ * must have all the others before that one. The session gets the next
+ * transaction count, or is worn. */
+uint32_t store_sync(uint8_t session[24], uint8_t *card, size_t card_len,
+                    uint8_t *work, size_t work_len);
+
+/* Copies one sector of the working image to the card, at any time:
+ * 4, 1, 2, 11. */
+uint32_t store_land(const uint8_t session[24], uint8_t *card, size_t card_len,
+                    const uint8_t *work, size_t work_len, uint32_t sector);
+
+#ifdef __cplusplus
+}
+#endif
+
+#endif

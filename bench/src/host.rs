@@ -1,0 +1,119 @@
+//! The six host functions of the proved store, as safe Rust.
+//!
+//! `include/sooqidhaal.h` declares the same six for C. Each gives one of the
+//! numbers of the paper's table. Every call takes any image of any length, any
+//! 24 bytes as a session, any name and any content; a call that is refused
+//! changes nothing, but that a refused mount gives the closed session. Rust's
+//! borrows see to it that no two lent buffers overlap.
+//!
+//! A session crosses as six words, least byte first: state (0 closed, 1 open,
+//! 2 open and worn), S, T, D, c, t. The closed session is 24 zero bytes.
+
+use crate::plain::{REPORT_BYTES, SESSION_BYTES};
+
+/// A session as it crosses to the host functions.
+pub type SessionBytes = [u8; SESSION_BYTES];
+/// What reading a card gives: words C, N, files shown, clear bits.
+pub type ReportBytes = [u8; REPORT_BYTES];
+
+/// The symbols of the library: a lent slice crosses as a pointer and a
+/// length, a lent array as a pointer.
+mod symbols {
+    use super::{ReportBytes, SessionBytes};
+
+    extern "C" {
+        pub fn store_make(s: u32, t: u32, d: u32, card: *mut u8, card_len: usize) -> u32;
+        pub fn store_read(card: *const u8, card_len: usize, out: *mut ReportBytes) -> u32;
+        pub fn store_mount(
+            card: *mut u8,
+            card_len: usize,
+            work: *mut u8,
+            work_len: usize,
+            session: *mut SessionBytes,
+        ) -> u32;
+        pub fn store_put(
+            session: *const SessionBytes,
+            work: *mut u8,
+            work_len: usize,
+            name: *const u8,
+            name_len: usize,
+            content: *const u8,
+            content_len: usize,
+        ) -> u32;
+        pub fn store_sync(
+            session: *mut SessionBytes,
+            card: *mut u8,
+            card_len: usize,
+            work: *mut u8,
+            work_len: usize,
+        ) -> u32;
+        pub fn store_land(
+            session: *const SessionBytes,
+            card: *mut u8,
+            card_len: usize,
+            work: *const u8,
+            work_len: usize,
+            sector: u32,
+        ) -> u32;
+    }
+}
+
+// In each call below the pointers come from Rust slices and arrays that are
+// borrowed for the length of the call: they are valid, also for a slice of
+// length 0, and those that are written to overlap no other. The functions
+// keep no pointer.
+
+/// Makes a fresh card of S, T and D: 1.
+pub fn make(s: u32, t: u32, d: u32, card: &mut [u8]) -> u32 {
+    // SAFETY: see above.
+    unsafe { symbols::store_make(s, t, d, card.as_mut_ptr(), card.len()) }
+}
+
+/// Reads a card: 1, 2. `out` takes C, N, the files shown and the clear bits,
+/// and stays as it is on a refusal.
+pub fn read(card: &[u8], out: &mut ReportBytes) -> u32 {
+    // SAFETY: see above.
+    unsafe { symbols::store_read(card.as_ptr(), card.len(), out) }
+}
+
+/// Mounts a card: 1, 2, 3. `session` takes the new session, or the closed one
+/// on a refusal, whatever it held before.
+pub fn mount(card: &mut [u8], work: &mut [u8], session: &mut SessionBytes) -> u32 {
+    let (card_len, work_len) = (card.len(), work.len());
+    let (card, work) = (card.as_mut_ptr(), work.as_mut_ptr());
+    // SAFETY: see above.
+    unsafe { symbols::store_mount(card, card_len, work, work_len, session) }
+}
+
+/// Stores a whole file under a name: 4, 2, 9, 5, 7, 8.
+pub fn put(session: &SessionBytes, work: &mut [u8], name: &[u8], content: &[u8]) -> u32 {
+    let work_len = work.len();
+    // SAFETY: see above.
+    unsafe {
+        symbols::store_put(
+            session,
+            work.as_mut_ptr(),
+            work_len,
+            name.as_ptr(),
+            name.len(),
+            content.as_ptr(),
+            content.len(),
+        )
+    }
+}
+
+/// Brings the working image to the card and begins the next transaction:
+/// 4, 1, 2, 9.
+pub fn sync(session: &mut SessionBytes, card: &mut [u8], work: &mut [u8]) -> u32 {
+    let (card_len, work_len) = (card.len(), work.len());
+    let (card, work) = (card.as_mut_ptr(), work.as_mut_ptr());
+    // SAFETY: see above.
+    unsafe { symbols::store_sync(session, card, card_len, work, work_len) }
+}
+
+/// Copies one sector of the working image to the card: 4, 1, 2, 11.
+pub fn land(session: &SessionBytes, card: &mut [u8], work: &[u8], sector: u32) -> u32 {
+    let (card_len, card) = (card.len(), card.as_mut_ptr());
+    // SAFETY: see above.
+    unsafe { symbols::store_land(session, card, card_len, work.as_ptr(), work.len(), sector) }
+}

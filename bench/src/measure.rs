@@ -1,0 +1,7 @@
+//! Times of the six calls of the proved store beside the plain version.
+
+mod bed;
+mod table;
+mod timing;
+
+pub use table::run;

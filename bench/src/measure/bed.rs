@@ -1,0 +1,135 @@
+//! The cards that are measured, and the calls on them.
+
+use crate::host::SessionBytes;
+use crate::plain::{self, Session, SECTOR};
+use crate::store::Store;
+
+/// S, T and D of the measured cards.
+pub const CARDS: [(u32, u32, u32); 4] = [(10, 1, 1), (256, 8, 8), (4_096, 8, 8), (4_096, 512, 64)];
+
+/// The measured calls. A put has a number of sectors.
+#[derive(Clone, Copy, Debug, PartialEq, Eq)]
+pub enum Call {
+    Make,
+    Read,
+    Mount,
+    Put(usize),
+    Sync,
+    Land,
+}
+
+pub const CALLS: [Call; 8] = [
+    Call::Make,
+    Call::Read,
+    Call::Mount,
+    Call::Put(0),
+    Call::Put(1),
+    Call::Put(16),
+    Call::Sync,
+    Call::Land,
+];
+
+impl Call {
+    /// The name in the table.
+    pub fn name(self) -> String {
+        match self {
+            Call::Make => "make".into(),
+            Call::Read => "read".into(),
+            Call::Mount => "mount".into(),
+            Call::Put(sectors) => format!("put {sectors}"),
+            Call::Sync => "sync".into(),
+            Call::Land => "land".into(),
+        }
+    }
+}
+
+/// Two images and a session, from which calls start.
+#[derive(Clone)]
+pub struct Bed {
+    pub geometry: (u32, u32, u32),
+    pub card: Vec<u8>,
+    pub work: Vec<u8>,
+    pub session: SessionBytes,
+    /// The name that puts use.
+    pub name: Vec<u8>,
+}
+
+impl Bed {
+    /// The state from which a call is measured: a fresh card, or one with a
+    /// full directory and about half of its data in use.
+    pub fn before(call: Call, geometry: (u32, u32, u32), full: bool) -> Bed {
+        let (s, t, d) = geometry;
+        let mut card = vec![0xEE; SECTOR * s as usize];
+        assert_eq!(plain::make(s, t, d, &mut card), plain::DONE);
+        let entries = 4 * d as usize;
+        let name = if full { entries - 1 } else { 0 };
+        let mut bed = Bed {
+            geometry,
+            work: card.clone(),
+            card,
+            session: Session::Closed.encode(),
+            name: name_of(name),
+        };
+        if full {
+            bed.fill(entries, s - (t + 4 + d));
+        }
+        bed.mount_for(call);
+        bed
+    }
+
+    /// A session of its own fills the directory and is unmounted.
+    fn fill(&mut self, entries: usize, data: u32) {
+        let (_, mut session) = plain::mount(&mut self.card, &mut self.work);
+        let half = data as usize / 2;
+        for i in 0..entries {
+            let sectors = (half / entries).max(usize::from(i < half));
+            let sectors = if half < entries && i >= half {
+                0
+            } else {
+                sectors
+            };
+            let content = vec![1; SECTOR * sectors];
+            let number = plain::put(&session, &mut self.work, &name_of(i), &content);
+            assert_eq!(number, plain::DONE);
+        }
+        let number = plain::unmount(&mut session, &mut self.card, &mut self.work);
+        assert_eq!(number, plain::DONE);
+    }
+
+    /// Session calls start after a mount; sync and land after a put as well.
+    fn mount_for(&mut self, call: Call) {
+        if matches!(call, Call::Make | Call::Read | Call::Mount) {
+            return;
+        }
+        let (_, session) = plain::mount(&mut self.card, &mut self.work);
+        if matches!(call, Call::Sync | Call::Land) {
+            let number = plain::put(&session, &mut self.work, &self.name, &[1; SECTOR]);
+            assert_eq!(number, plain::DONE);
+        }
+        self.session = session.encode();
+    }
+
+    /// Brings the buffers back to those of `from`, by a copy.
+    pub fn prepare(&mut self, from: &Bed) {
+        self.card.copy_from_slice(&from.card);
+        self.work.copy_from_slice(&from.work);
+        self.session = from.session;
+    }
+
+    /// Makes a call and gives its number.
+    pub fn call(&mut self, store: &dyn Store, call: Call, content: &[u8]) -> u32 {
+        let (s, t, d) = self.geometry;
+        match call {
+            Call::Make => store.make(s, t, d, &mut self.card),
+            Call::Read => store.read(&self.card, &mut [0; 16]),
+            Call::Mount => store.mount(&mut self.card, &mut self.work, &mut self.session),
+            Call::Put(_) => store.put(&self.session, &mut self.work, &self.name, content),
+            Call::Sync => store.sync(&mut self.session, &mut self.card, &mut self.work),
+            Call::Land => store.land(&self.session, &mut self.card, &self.work, t + 4 + d),
+        }
+    }
+}
+
+fn name_of(i: usize) -> Vec<u8> {
+    format!("arm_{i:03}").into_bytes()
+}

@@ -1,0 +1,89 @@
+//! Medians of many runs, the two stores in turn.
+
+use super::bed::{Bed, Call};
+use crate::plain::SECTOR;
+use crate::store::{Plain, Proved, Store};
+use std::hint::black_box;
+use std::time::{Duration, Instant};
+
+/// What was measured of one call; times are medians in nanoseconds.
+#[derive(Clone, Copy)]
+pub struct Measured {
+    pub number: u32,
+    pub proved: f64,
+    pub plain: f64,
+    /// One copy of the bytes that a sync moves.
+    pub copy: f64,
+}
+
+/// Most runs of a call, and the time after which there are no more.
+const MOST_RUNS: usize = 4_001;
+const LEAST_RUNS: usize = 21;
+const LONGEST: Duration = Duration::from_millis(400);
+
+/// Measures a call from the state `from`. Before each timed call the buffers
+/// are copied from `from`, so all are in the cache as far as it reaches, and
+/// the stores take turns in who is first.
+pub fn measure(call: Call, from: &Bed) -> Measured {
+    let content = vec![7; content_bytes(call)];
+    let mut bed = from.clone();
+    let mut times: [Vec<f64>; 3] = Default::default();
+    let mut numbers = [0; 2];
+    let begun = Instant::now();
+    let stores: [&dyn Store; 2] = [&Proved, &Plain];
+    for run in 0..MOST_RUNS {
+        if run >= LEAST_RUNS && begun.elapsed() > LONGEST {
+            break;
+        }
+        for turn in [run % 2, (run + 1) % 2] {
+            bed.prepare(from);
+            let (time, number) = timed(|| bed.call(stores[turn], call, &content));
+            times[turn].push(time);
+            numbers[turn] = number;
+        }
+        bed.prepare(from);
+        times[2].push(timed(|| copy_of_a_sync(&mut bed)).0);
+    }
+    assert_eq!(numbers[0], numbers[1]);
+    let idle = clock();
+    let [proved, plain, copy] = times.map(|list| (median(list) - idle).max(0.1));
+    let number = numbers[0];
+    Measured {
+        number,
+        proved,
+        plain,
+        copy,
+    }
+}
+
+/// The clock's own time for nothing.
+pub fn clock() -> f64 {
+    median((0..2_001).map(|_| timed(|| ()).0).collect())
+}
+
+fn timed<T>(call: impl FnOnce() -> T) -> (f64, T) {
+    let begun = Instant::now();
+    let answer = black_box(call());
+    (begun.elapsed().as_nanos() as f64, answer)
+}
+
+/// A plain copy of what a sync moves: all sectors but the table, and one.
+#[inline(never)]
+fn copy_of_a_sync(bed: &mut Bed) {
+    let bytes = bed.card.len() - SECTOR * (bed.geometry.1 as usize - 1);
+    bed.card[..bytes].copy_from_slice(&bed.work[..bytes]);
+    black_box(&mut bed.card);
+}
+
+pub fn median(mut list: Vec<f64>) -> f64 {
+    list.sort_by(f64::total_cmp);
+    list[list.len() / 2]
+}
+
+/// The content of a put of so many sectors; its last byte is missing.
+pub fn content_bytes(call: Call) -> usize {
+    match call {
+        Call::Put(sectors) => (SECTOR * sectors).saturating_sub(1),
+        _ => 0,
+    }
+}

@@ -1,0 +1,96 @@
+//! The six calls of a store on numbers and byte buffers, so that two stores
+//! can be run beside each other.
+
+use crate::host::{self, ReportBytes, SessionBytes};
+use crate::plain::{self, Session};
+
+/// A store as a host sees it. The numbers are those of the paper's table, and
+/// a session is its six words.
+///
+/// Further calls (list over a lent table of lines) join here when the host
+/// functions have them.
+pub trait Store: Sync {
+    /// Makes a fresh card of S, T and D.
+    fn make(&self, s: u32, t: u32, d: u32, card: &mut [u8]) -> u32;
+    /// Reads a card; `out` stays on a refusal.
+    fn read(&self, card: &[u8], out: &mut ReportBytes) -> u32;
+    /// Mounts a card; a refusal gives the closed session.
+    fn mount(&self, card: &mut [u8], work: &mut [u8], session: &mut SessionBytes) -> u32;
+    /// Stores a whole file.
+    fn put(&self, session: &SessionBytes, work: &mut [u8], name: &[u8], content: &[u8]) -> u32;
+    /// Brings the working image to the card.
+    fn sync(&self, session: &mut SessionBytes, card: &mut [u8], work: &mut [u8]) -> u32;
+    /// Copies one sector to the card.
+    fn land(&self, session: &SessionBytes, card: &mut [u8], work: &[u8], sector: u32) -> u32;
+}
+
+/// The proved store, through its host functions.
+pub struct Proved;
+
+impl Store for Proved {
+    fn make(&self, s: u32, t: u32, d: u32, card: &mut [u8]) -> u32 {
+        host::make(s, t, d, card)
+    }
+
+    fn read(&self, card: &[u8], out: &mut ReportBytes) -> u32 {
+        host::read(card, out)
+    }
+
+    fn mount(&self, card: &mut [u8], work: &mut [u8], session: &mut SessionBytes) -> u32 {
+        host::mount(card, work, session)
+    }
+
+    fn put(&self, session: &SessionBytes, work: &mut [u8], name: &[u8], content: &[u8]) -> u32 {
+        host::put(session, work, name, content)
+    }
+
+    fn sync(&self, session: &mut SessionBytes, card: &mut [u8], work: &mut [u8]) -> u32 {
+        host::sync(session, card, work)
+    }
+
+    fn land(&self, session: &SessionBytes, card: &mut [u8], work: &[u8], sector: u32) -> u32 {
+        host::land(session, card, work, sector)
+    }
+}
+
+/// The plain version.
+pub struct Plain;
+
+impl Store for Plain {
+    fn make(&self, s: u32, t: u32, d: u32, card: &mut [u8]) -> u32 {
+        plain::make(s, t, d, card)
+    }
+
+    fn read(&self, card: &[u8], out: &mut ReportBytes) -> u32 {
+        match plain::read(card) {
+            Ok(report) => {
+                *out = report.encode();
+                plain::DONE
+            }
+            Err(refusal) => refusal,
+        }
+    }
+
+    fn mount(&self, card: &mut [u8], work: &mut [u8], session: &mut SessionBytes) -> u32 {
+        let (number, mounted) = plain::mount(card, work);
+        *session = mounted.encode();
+        number
+    }
+
+    fn put(&self, session: &SessionBytes, work: &mut [u8], name: &[u8], content: &[u8]) -> u32 {
+        plain::put(&Session::decode(session), work, name, content)
+    }
+
+    fn sync(&self, session: &mut SessionBytes, card: &mut [u8], work: &mut [u8]) -> u32 {
+        let mut decoded = Session::decode(session);
+        let number = plain::sync(&mut decoded, card, work);
+        if number == plain::DONE {
+            *session = decoded.encode();
+        }
+        number
+    }
+
+    fn land(&self, session: &SessionBytes, card: &mut [u8], work: &[u8], sector: u32) -> u32 {
+        plain::land(&Session::decode(session), card, work, sector)
+    }
+}
