@@ -6,10 +6,13 @@
 //! * [`stored`] holds the stored cards and the report expected for each.
 //! * [`host`] holds the six host functions of the proved store.
 //! * [`store`] is what both have in common.
+//! * [`cutbench`] runs histories with cuts through both and compares.
 //! * [`measure`] times them and looks at their stack.
 
 #![deny(unsafe_code)]
 
+pub mod cutbench;
+pub mod dice;
 #[allow(unsafe_code)]
 pub mod host;
 pub mod measure;

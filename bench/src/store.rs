@@ -2,7 +2,11 @@
 //! can be run beside each other.
 
 use crate::host::{self, ReportBytes, SessionBytes};
+use crate::plain::steps::{self, Step};
 use crate::plain::{self, Session};
+
+/// The writes of a call, or its refusal.
+pub type Steps = Result<Vec<Step>, u32>;
 
 /// A store as a host sees it. The numbers are those of the paper's table, and
 /// a session is its six words.
@@ -22,6 +26,13 @@ pub trait Store: Sync {
     fn sync(&self, session: &mut SessionBytes, card: &mut [u8], work: &mut [u8]) -> u32;
     /// Copies one sector to the card.
     fn land(&self, session: &SessionBytes, card: &mut [u8], work: &[u8], sector: u32) -> u32;
+
+    /// The card writes of a sync in order, for cuts inside it. A call cannot
+    /// be stopped half way from outside, so the plain version's list stands
+    /// for every store that does not give its own.
+    fn sync_steps(&self, session: &SessionBytes, card: &[u8], work: &[u8]) -> Steps {
+        steps::of_sync(&Session::decode(session), card, work)
+    }
 }
 
 /// The proved store, through its host functions.

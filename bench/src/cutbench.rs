@@ -1,0 +1,39 @@
+//! The cut bench: the proved store's host functions beside the plain version.
+//!
+//! A history is a list of lines ([`Op`]), each a call of the six functions, a
+//! cut, or some meddling with images and session, and has a text form. Both
+//! stores run it from the same state. After every call the numbers, sessions
+//! and all bytes of both images must be the same, and a refusal must have
+//! changed nothing. Removes and unmounts, for which there is no host function,
+//! are done by the plain version, and its images are given to both sides.
+//!
+//! At a cut each sector of the card may hold any value written to it since the
+//! latest moment: a finished sync, or the mount. Such cards are read back by
+//! both stores, and must show the names and contents of that moment, or, where
+//! the cut fell inside a sync after its table sector was written, of either
+//! side of it.
+//!
+//! The parts are in [`parts`]; a history that shows a disagreement is made
+//! shorter by [`shrink`] and printed, so that it can be replayed.
+
+mod choices;
+mod cuts;
+mod edges;
+mod exhaustive;
+mod files;
+mod histories;
+mod hostile;
+mod image;
+mod op;
+mod parse;
+pub mod parts;
+mod shrink;
+mod summary;
+mod track;
+mod world;
+
+pub use op::{Cuttable, Op, Which};
+pub use parse::{history, text};
+pub use shrink::{fault, shrink};
+pub use summary::{table, Row, Tally};
+pub use world::{Outcome, World};

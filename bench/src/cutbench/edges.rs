@@ -1,0 +1,114 @@
+//! Histories at the edges of the card: the last counts, full cards, full
+//! directories, and the largest parts.
+
+use super::op::Op;
+use super::parse::history;
+use crate::plain::TOP;
+
+/// All of them.
+pub fn all() -> Vec<Vec<Op>> {
+    let mut texts = limits();
+    texts.extend(transaction_counts());
+    texts.extend(crash_counts());
+    texts.extend(full_cards());
+    texts.extend(full_directories());
+    let parsed = |text: &String| history(text).expect("a history of this file");
+    texts.iter().map(parsed).collect()
+}
+
+/// A session of some calls and cuts that ends in an unmount.
+const SESSION: &str = "read; mount; put a 600 1; try 1; land 1; sync; try 2; put b 0 2; land 0;
+    try 3; sync; put a 700 3; try 4; cut-in sync 1000 4; mount; remove a; put c 1 5; try 5;
+    sync; sync; put d 5 6; unmount; try 6; read; mount; put e 513 7; cut 7; read; mount;
+    unmount; read";
+
+/// Geometries just inside and just outside the limits.
+fn limits() -> Vec<String> {
+    let geometries = [
+        (6, 1, 1),
+        (7, 1, 1),
+        (581, 512, 64),
+        (580, 512, 64),
+        (600, 513, 64),
+        (600, 512, 65),
+        (600, 0, 64),
+        (600, 512, 0),
+        (4_096, 512, 64),
+        (4_097, 512, 64),
+        (4_096, 1, 64),
+        (4_096, 512, 1),
+        (0, 0, 0),
+    ];
+    let one = |(s, t, d)| format!("fresh {s} {t} {d}; {SESSION}");
+    geometries.map(one).to_vec()
+}
+
+/// Table words up to the largest and one more, at C = 0 and at a later C.
+fn transaction_counts() -> Vec<String> {
+    let mut texts = Vec::new();
+    for word in TOP - 3..=TOP + 1 {
+        for c in [0, 1, 126, 127] {
+            let at = 512 + 4 * c;
+            texts.push(format!(
+                "fresh 14 1 1; poke card 0 {c}; poke card {at} {word}; {SESSION}; {SESSION}"
+            ));
+            let unmounts = "mount; put a 600 1; unmount; try 1; ".repeat(4);
+            texts.push(format!(
+                "fresh 14 1 1; poke card 0 {c}; poke card {at} {word}; {unmounts} read"
+            ));
+        }
+    }
+    texts
+}
+
+/// C from N - 3 to N + 1, with a small and the largest table.
+fn crash_counts() -> Vec<String> {
+    let mut texts = Vec::new();
+    for t in [1, 2, 512] {
+        for c in 128 * t - 3..=128 * t + 1 {
+            let s = t + 12;
+            texts.push(format!(
+                "fresh {s} {t} 1; poke card 0 {c}; {SESSION}; {SESSION}"
+            ));
+        }
+    }
+    texts
+}
+
+/// One file takes all data; then there is room for none but those of 0 bytes.
+fn full_cards() -> Vec<String> {
+    let mut texts = Vec::new();
+    for (s, t, d) in [
+        (7, 1, 1),
+        (10, 1, 1),
+        (256, 8, 8),
+        (4_096, 8, 8),
+        (4_096, 512, 64),
+    ] {
+        let data = 512 * (s - t - 4 - d);
+        let (more, less) = (data + 1, data - 511);
+        texts.push(format!(
+            "fresh {s} {t} {d}; mount; put a {more} 1; put a {data} 2; put b 1 3; put b 0 4;
+             try 1; land {t}; try 2; sync; try 3; put a {data} 5; put b 1 6; remove a;
+             put c 1 7; sync; put c {less} 8; try 4; cut-in sync 5000 9; mount; unmount; read"
+        ));
+    }
+    texts
+}
+
+/// As many files as entries; one more finds none until a removed one's cut
+/// view is gone.
+fn full_directories() -> Vec<String> {
+    let mut texts = Vec::new();
+    for (s, t, d) in [(10, 1, 1), (20, 1, 3), (200, 1, 64), (4_096, 512, 64)] {
+        let puts: String = (0..4 * d)
+            .map(|i| format!("put f{i} {} {i};", i % 3 / 2))
+            .collect();
+        texts.push(format!(
+            "fresh {s} {t} {d}; mount; {puts} put more 0 1; try 1; sync; put more 0 1; try 2;
+             remove f3; put more 0 1; put f3 0 2; remove f3; try 3; sync; put more 1 3; read;
+             try 4; cut-in unmount 5000 5; mount; put f3 1 1; put f2 1 1; sync; unmount; read"
+        ));
+    }
+    texts
+}

@@ -1,0 +1,131 @@
+//! Random histories of calls and cuts.
+
+use super::op::{Cuttable, Op, Which};
+use crate::dice::Dice;
+use crate::plain::{MOST_SECTORS, TOP};
+
+/// The names: few, so that they meet; the last ones are refused.
+const NAMES: [&[u8]; 14] = [
+    b"a",
+    b"b",
+    b"c",
+    b"d",
+    b"e",
+    b"f",
+    b"a!",
+    b"~",
+    b"thirty-two_bytes_are_a_full_name",
+    b"thirty-two_bytes_are_a_full_nam",
+    b"",
+    b"thirty-three_bytes_are_one_too_ma",
+    b"a b",
+    b"\x7f",
+];
+const GOOD_NAMES: usize = 10;
+
+/// A history of about `length` lines.
+pub fn random(dice: &mut Dice, length: usize) -> Vec<Op> {
+    let (s, t, d) = geometry(dice);
+    let length = if s > 100 { length.min(25) } else { length };
+    let mut list = vec![Op::Fresh(s, t, d)];
+    if dice.one_in(4) {
+        last_counts(dice, t, &mut list);
+    }
+    list.push(Op::Mount);
+    while list.len() < length {
+        some(dice, s, &mut list);
+    }
+    list
+}
+
+fn geometry(dice: &mut Dice) -> (u32, u32, u32) {
+    let (t, d) = match dice.below(100) {
+        0 => (512, 64),
+        1..=2 => (8, 8),
+        _ => (1 + dice.below(2) as u32, 1 + dice.below(2) as u32),
+    };
+    let f = t + 4 + d;
+    let s = match dice.below(100) {
+        0 => MOST_SECTORS,
+        1 => f + 1 + dice.below((MOST_SECTORS - f) as usize) as u32,
+        _ => f + 1 + dice.below(24) as u32,
+    };
+    (s, t, d)
+}
+
+/// A card whose crash counts or transaction counts are nearly used up.
+fn last_counts(dice: &mut Dice, t: u32, list: &mut Vec<Op>) {
+    let c = match dice.below(3) {
+        0 => 128 * t - 1 - dice.below(3) as u32,
+        _ => dice.below(128 * t as usize) as u32,
+    };
+    list.push(Op::Poke(Which::Card, 0, c));
+    let word = TOP - 1 - dice.below(4) as u32;
+    list.push(Op::Poke(Which::Card, 512 + 4 * c as usize, word));
+}
+
+/// A few lines more.
+fn some(dice: &mut Dice, s: u32, list: &mut Vec<Op>) {
+    let seed = dice.roll() % 1_000_000;
+    match dice.below(100) {
+        0..=37 => list.push(put(dice)),
+        38..=49 => list.push(Op::Remove(name(dice))),
+        50..=61 => lands(dice, s, list),
+        62..=75 => list.push(Op::Try(seed)),
+        76..=77 => list.push(Op::All(64)),
+        78..=86 => list.push(Op::Sync),
+        87..=88 => list.push(Op::Read),
+        89..=90 => list.extend([Op::Unmount, Op::Try(seed), Op::Mount]),
+        91 => list.push(Op::Mount),
+        92..=94 => list.extend([Op::Cut(seed), Op::Mount]),
+        _ => {
+            let call = *dice.one_of(&[Cuttable::Sync, Cuttable::Sync, Cuttable::Unmount]);
+            list.extend([cut_in(dice, s, call), Op::Mount]);
+            if dice.one_in(8) {
+                list.extend([cut_in(dice, s, Cuttable::Mount), Op::Mount]);
+            }
+        }
+    }
+}
+
+fn put(dice: &mut Dice) -> Op {
+    let bytes = match dice.below(8) {
+        0 => 0,
+        1 => 512 * (1 + dice.below(4)),
+        2 => dice.below(12_000),
+        _ => dice.below(1_700),
+    };
+    Op::Put {
+        name: name(dice),
+        bytes,
+        seed: dice.roll() % 1_000_000,
+    }
+}
+
+fn name(dice: &mut Dice) -> Vec<u8> {
+    let names = if dice.one_in(16) {
+        NAMES.len()
+    } else if dice.one_in(4) {
+        GOOD_NAMES
+    } else {
+        5
+    };
+    NAMES[dice.below(names)].to_vec()
+}
+
+/// Lands a random set of sectors; a number past the end is refused.
+fn lands(dice: &mut Dice, s: u32, list: &mut Vec<Op>) {
+    for _ in 0..1 + dice.below(6) {
+        let past = u32::from(dice.one_in(30)) * 3;
+        list.push(Op::Land(dice.below(s as usize) as u32 + past));
+    }
+}
+
+/// Cuts fall anywhere, and often near the table sector.
+fn cut_in(dice: &mut Dice, s: u32, call: Cuttable) -> Op {
+    let steps = match dice.below(2) {
+        0 => dice.below(s as usize + 3),
+        _ => (s as usize + 3).saturating_sub(dice.below(6)),
+    };
+    Op::CutIn(call, steps, dice.roll() % 1_000_000)
+}

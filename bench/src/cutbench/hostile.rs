@@ -1,0 +1,133 @@
+//! Histories of hostile input: random and mutated images, sessions, names and
+//! lengths to every call.
+
+use super::op::{Op, Which};
+use crate::dice::Dice;
+use crate::plain::TOP;
+use crate::stored;
+
+/// Words that sit at some bound.
+const BOUNDS: [u32; 18] = [
+    0,
+    1,
+    2,
+    3,
+    4,
+    5,
+    6,
+    9,
+    10,
+    127,
+    128,
+    512,
+    4_096,
+    TOP - 1,
+    TOP,
+    TOP + 1,
+    u32::MAX - 1,
+    u32::MAX,
+];
+
+/// The stored cards of few sectors, by name.
+pub fn small_cards() -> Vec<&'static str> {
+    let small = stored::all().into_iter().filter(|c| c.bytes.len() <= 6_144);
+    small.map(|card| card.name).collect()
+}
+
+/// A history: some state, then again and again from there a few mutations and
+/// a few calls.
+pub fn random(dice: &mut Dice, cards: &[&str]) -> Vec<Op> {
+    let mut list = beginning(dice, cards);
+    list.push(Op::Save);
+    for _ in 0..40 {
+        list.push(Op::Back);
+        for _ in 0..dice.below(4) {
+            list.push(mutation(dice));
+        }
+        for _ in 0..1 + dice.below(3) {
+            list.push(call(dice));
+        }
+    }
+    list
+}
+
+fn beginning(dice: &mut Dice, cards: &[&str]) -> Vec<Op> {
+    let mut list = match dice.below(16) {
+        0 => vec![Op::Noise(Which::Card, dice.below(6_000), dice.roll())],
+        1..=3 => vec![Op::Fresh(7 + dice.below(6) as u32, 1, 1)],
+        4 => vec![Op::Fresh(70 + dice.below(9) as u32, 1, 64)],
+        _ => vec![Op::Stored(dice.one_of(cards).to_string())],
+    };
+    list.push(Op::Mount);
+    for _ in 0..dice.below(5) {
+        list.push(match dice.below(6) {
+            0 => Op::Sync,
+            1 => Op::Remove(vec![b'a'; 1]),
+            _ => put(dice),
+        });
+    }
+    list
+}
+
+fn word(dice: &mut Dice) -> u32 {
+    match dice.below(4) {
+        0 => dice.roll() as u32,
+        1 => dice.below(12) as u32,
+        _ => *dice.one_of(&BOUNDS),
+    }
+}
+
+fn which(dice: &mut Dice) -> Which {
+    *dice.one_of(&[Which::Card, Which::Work, Which::Work])
+}
+
+/// Most mutations go to the first six sectors, where the words are; some
+/// words of an entry and of the index are met on purpose.
+fn mutation(dice: &mut Dice) -> Op {
+    let image = which(dice);
+    match dice.below(16) {
+        0..=3 => Op::Session(dice.below(6), word(dice)),
+        4 => Op::Length(image, length(dice)),
+        5..=6 => Op::Poke(image, 4 * dice.below(5), word(dice)),
+        7..=8 => Op::Poke(image, 1_024 + 4 * dice.below(5), word(dice)),
+        9..=12 => {
+            let entry = 2_560 + 128 * dice.below(4);
+            Op::Poke(image, entry + 4 * dice.below(20), word(dice))
+        }
+        13 => Op::Poke(image, 1_536 + dice.below(1_024), dice.roll() as u32),
+        14 => Op::Poke(image, dice.below(6_000), word(dice)),
+        _ => Op::Poke(image, 512 + 4 * dice.below(6), word(dice)),
+    }
+}
+
+fn length(dice: &mut Dice) -> usize {
+    match dice.below(3) {
+        0 => 512 * dice.below(13),
+        1 => 512 * dice.below(13) + 1,
+        _ => dice.below(6_000),
+    }
+}
+
+fn call(dice: &mut Dice) -> Op {
+    match dice.below(16) {
+        0 => Op::Make(word(dice), word(dice), word(dice)),
+        1 => Op::Make(10, 1 + dice.below(2) as u32, 1),
+        2..=3 => Op::Read,
+        4..=5 => Op::Mount,
+        6..=9 => put(dice),
+        10..=12 => Op::Sync,
+        13 => Op::Land(word(dice)),
+        _ => Op::Land(dice.below(11) as u32),
+    }
+}
+
+fn put(dice: &mut Dice) -> Op {
+    let length = *dice.one_of(&[0, 1, 1, 1, 1, 1, 2, 4, 31, 32, 33, 100]);
+    let byte = *dice.one_of(&[b'a', b'a', b'a', b'b', b'c', b'!', b'~', 32, 127, 0, 255]);
+    let bytes = *dice.one_of(&[0, 1, 511, 512, 513, 1_024, 1_025, 2_048, 5_000]);
+    Op::Put {
+        name: vec![byte; length],
+        bytes,
+        seed: dice.roll() % 1_000,
+    }
+}

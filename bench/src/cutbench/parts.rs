@@ -1,0 +1,160 @@
+//! The parts of a run, each a row of histories shared out to the cores.
+
+use super::op::Op;
+use super::shrink::{fault, shrink};
+use super::summary::{Row, Tally};
+use super::{edges, exhaustive, histories, hostile};
+use crate::dice::Dice;
+use crate::store::Store;
+use std::sync::atomic::{AtomicBool, AtomicU64, Ordering};
+use std::sync::Mutex;
+use std::thread;
+use std::time::{Duration, Instant};
+
+/// When a part ends: after so many histories, or after a time.
+#[derive(Clone, Copy)]
+pub enum Limit {
+    Histories(u64),
+    Time(Duration),
+}
+
+/// How much of everything a run does.
+pub struct Plan {
+    pub seed: u64,
+    pub random: Limit,
+    pub hostile: Limit,
+    /// Products of cards up to 2 to this are tried whole.
+    pub most: u32,
+}
+
+/// A disagreement: the whole history, and what was wrong.
+pub struct Failure {
+    pub history: Vec<Op>,
+    pub what: String,
+}
+
+/// The store under test and the one beside it.
+#[derive(Clone, Copy)]
+pub struct Pair<'a>(pub &'a dyn Store, pub &'a dyn Store);
+
+impl Pair<'_> {
+    /// The shortest form of a failing history that fails in the same way, as
+    /// far as the words of the message tell.
+    pub fn smallest(&self, failure: Failure) -> Failure {
+        let fails = |list: &[Op]| {
+            let (_, wrong) = fault(self.0, self.1, list);
+            let same = wrong.filter(|(_, what)| same_kind(what, &failure.what));
+            same.map(|(at, _)| at)
+        };
+        let history = shrink(failure.history.clone(), fails);
+        let what = fault(self.0, self.1, &history).1;
+        let what = what.map_or(failure.what, |(_, what)| what);
+        Failure { history, what }
+    }
+}
+
+/// Whether two messages begin with the same three words, numbers aside.
+fn same_kind(one: &str, other: &str) -> bool {
+    let words = |text: &str| -> Vec<String> {
+        let words = text.split_whitespace().take(3);
+        let no_digits = |word: &str| word.replace(|c: char| c.is_ascii_digit(), "");
+        words.map(no_digits).collect()
+    };
+    words(one) == words(other)
+}
+
+/// Runs every part in order; `progress` is told of each part while it runs.
+pub fn run(
+    pair: Pair,
+    plan: &Plan,
+    progress: &(dyn Fn(&str, Tally) + Sync),
+) -> (Vec<Row>, Vec<Failure>) {
+    let cards = hostile::small_cards();
+    let (fixed, scripts) = (exhaustive::all(plan.most), edges::all());
+    let dice = |part, i| Dice::new(Dice::seed_of(plan.seed, part, i));
+    let random = |i| Some(histories::random(&mut dice(1, i), 60));
+    let damaged = |i| Some(hostile::random(&mut dice(2, i), &cards));
+    let every = Limit::Histories(u64::MAX);
+    let parts: [(&'static str, Limit, &Source); 4] = [
+        ("random", plan.random, &random),
+        ("exhaustive", every, &|i| fixed.get(i as usize).cloned()),
+        ("edges", every, &|i| scripts.get(i as usize).cloned()),
+        ("hostile", plan.hostile, &damaged),
+    ];
+    let mut rows = Vec::new();
+    let mut failures = Vec::new();
+    for (part, limit, source) in parts {
+        let (row, failed) = run_part(part, pair, limit, source, &|tally| progress(part, tally));
+        rows.push(row);
+        failures.extend(failed);
+    }
+    (rows, failures)
+}
+
+/// The history of a number, if there is one.
+type Source<'a> = dyn Fn(u64) -> Option<Vec<Op>> + Sync + 'a;
+
+/// What the cores share while a part runs.
+struct Shared {
+    next: AtomicU64,
+    stop: AtomicBool,
+    done: Mutex<(Tally, Vec<Failure>)>,
+}
+
+fn run_part(
+    part: &'static str,
+    pair: Pair,
+    limit: Limit,
+    source: &Source,
+    progress: &(dyn Fn(Tally) + Sync),
+) -> (Row, Vec<Failure>) {
+    let begun = Instant::now();
+    let shared = Shared {
+        next: AtomicU64::new(0),
+        stop: AtomicBool::new(false),
+        done: Mutex::new((Tally::default(), Vec::new())),
+    };
+    let cores = thread::available_parallelism().map_or(1, |n| n.get().min(16));
+    thread::scope(|scope| {
+        for _ in 0..cores {
+            scope.spawn(|| work(pair, limit, source, begun, &shared, progress));
+        }
+    });
+    let (tally, failures) = shared.done.into_inner().expect("no core panicked");
+    let row = Row {
+        part,
+        tally,
+        disagreements: failures.len() as u64,
+        seconds: begun.elapsed().as_secs_f64(),
+    };
+    (row, failures)
+}
+
+/// Takes histories until there are no more, the limit is met, or one fails.
+fn work(
+    pair: Pair,
+    limit: Limit,
+    source: &Source,
+    begun: Instant,
+    shared: &Shared,
+    progress: &(dyn Fn(Tally) + Sync),
+) {
+    while !shared.stop.load(Ordering::Relaxed) {
+        let i = shared.next.fetch_add(1, Ordering::Relaxed);
+        let over = match limit {
+            Limit::Histories(most) => i >= most,
+            Limit::Time(time) => begun.elapsed() >= time,
+        };
+        let Some(history) = source(i).filter(|_| !over) else {
+            return;
+        };
+        let (tally, wrong) = fault(pair.0, pair.1, &history);
+        let mut done = shared.done.lock().expect("no core panicked");
+        done.0 += tally;
+        progress(done.0);
+        if let Some((_, what)) = wrong {
+            done.1.push(Failure { history, what });
+            shared.stop.store(true, Ordering::Relaxed);
+        }
+    }
+}

@@ -1,0 +1,135 @@
+//! The calls of a history, and what a cut may leave and show after each.
+
+use super::choices::Choices;
+use super::files::{files_of, Files};
+use super::op::Cuttable;
+use super::world::{Outcome, World};
+use crate::plain::{self, Session, DONE};
+
+/// What is known of a history.
+pub struct Track {
+    /// What each sector may hold after a cut.
+    pub choices: Choices,
+    /// The files shown at the latest moment.
+    pub shown: Files,
+    /// The files of the present view.
+    pub present: Files,
+}
+
+impl Track {
+    /// Everything has landed and these files are shown.
+    pub fn settled(card: &[u8], files: Files) -> Track {
+        Track {
+            choices: Choices::settled(card),
+            shown: files.clone(),
+            present: files,
+        }
+    }
+}
+
+impl World<'_> {
+    pub(super) fn make(&mut self, s: u32, t: u32, d: u32) -> Outcome {
+        let track = self.track.take();
+        let number = self.call(None, |store, side| {
+            store.make(s, t, d, side.card.bytes_mut())
+        })?;
+        self.track = track.filter(|_| number != DONE);
+        Ok(())
+    }
+
+    /// A mount with a session still open counts as a cut at which the card
+    /// stays as it is, also when it is refused.
+    pub(super) fn mount(&mut self) -> Outcome {
+        let was_open = self.session() != Session::Closed;
+        let number = self.call(Some(Session::Closed), |store, side| {
+            let (card, work) = (side.card.bytes_mut(), side.work.bytes_mut());
+            store.mount(card, work, &mut side.session)
+        })?;
+        if number != DONE && !(was_open && self.track.is_some()) {
+            return Ok(());
+        }
+        let card = self.card();
+        let files = match self.track.take() {
+            Some(track) => track.shown,
+            None => files_of(&card).map_err(|n| format!("a mounted card is refused {n}"))?,
+        };
+        self.look(&card, &[&files])?;
+        self.track = Some(Track::settled(&card, files));
+        Ok(())
+    }
+
+    pub(super) fn put(&mut self, name: &[u8], content: &[u8]) -> Outcome {
+        let number = self.call(None, |store, side| {
+            store.put(&side.session, side.work.bytes_mut(), name, content)
+        })?;
+        if let Some(track) = self.track.as_mut().filter(|_| number == DONE) {
+            track.present.insert(name.to_vec(), content.to_vec());
+            track.choices.all_written(self.sides[0].work.bytes());
+        }
+        Ok(())
+    }
+
+    /// There is no host function for this: the plain version changes one
+    /// side, and the other takes over its images.
+    pub(super) fn remove(&mut self, name: &[u8]) -> Outcome {
+        let session = self.session();
+        let number = plain::remove(&session, self.sides[1].work.bytes_mut(), name);
+        self.take_over();
+        if let Some(track) = self.track.as_mut().filter(|_| number == DONE) {
+            track.choices.all_written(self.sides[0].work.bytes());
+            if track.present.remove(name).is_none() {
+                return Err("a file that is not there was removed".into());
+            }
+        }
+        Ok(())
+    }
+
+    pub(super) fn land(&mut self, sector: u32) -> Outcome {
+        let number = self.call(None, |store, side| {
+            let (card, work) = (side.card.bytes_mut(), side.work.bytes());
+            store.land(&side.session, card, work, sector)
+        })?;
+        if number == DONE {
+            self.tally.landed += 1;
+        }
+        Ok(())
+    }
+
+    pub(super) fn sync(&mut self) -> Outcome {
+        let number = self.call(None, |store, side| {
+            let (card, work) = (side.card.bytes_mut(), side.work.bytes_mut());
+            store.sync(&mut side.session, card, work)
+        })?;
+        match self.track.take() {
+            Some(track) if number == DONE => {
+                let card = self.card();
+                self.look(&card, &[&track.present])?;
+                self.track = Some(Track::settled(&card, track.present));
+            }
+            track => self.track = track,
+        }
+        Ok(())
+    }
+
+    /// By the plain version, as remove is.
+    pub(super) fn unmount(&mut self) -> Outcome {
+        let list = self.steps_of(Cuttable::Unmount);
+        let mut session = self.session();
+        let side = &mut self.sides[1];
+        let number = plain::unmount(&mut session, side.card.bytes_mut(), side.work.bytes_mut());
+        if number == DONE {
+            side.session = session.encode();
+        }
+        self.take_over();
+        if let (Some(track), Ok(list)) = (self.track.as_mut(), list) {
+            list.iter().for_each(|step| track.choices.step(step));
+            track.shown = track.present.clone();
+        }
+        Ok(())
+    }
+
+    fn take_over(&mut self) {
+        let [one, other] = &mut self.sides;
+        one.copy_from(other);
+    }
+}
