@@ -52,7 +52,7 @@ fn plan(arguments: &[String]) -> Result<Plan, String> {
         Plan {
             seed: seed.unwrap_or(SHORT_SEED),
             random: Limit::Histories(1_500),
-            hostile: Limit::Histories(2_500),
+            hostile: Limit::Histories(4_000),
             most: 14,
         }
     } else {
@@ -61,7 +61,7 @@ fn plan(arguments: &[String]) -> Result<Plan, String> {
             seed: seed.unwrap_or_else(from_the_clock),
             random: half,
             hostile: half,
-            most: 20,
+            most: if seconds < 60 { 14 } else { 20 },
         }
     })
 }

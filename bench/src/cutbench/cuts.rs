@@ -22,12 +22,14 @@ impl World<'_> {
         }
     }
 
-    /// Looks at some card that a cut now would leave.
+    /// Looks at the card as it is, with what has been landed on it, and at
+    /// some other card that a cut now could leave.
     pub(super) fn try_cut(&mut self, seed: u64) -> Outcome {
         let Some(track) = self.track.take() else {
             return Ok(());
         };
         self.tally.cuts += 1;
+        self.look(&self.card(), &[&track.shown])?;
         let card = track.choices.pick(&mut Dice::new(seed));
         self.look(&card, &[&track.shown])?;
         self.track = Some(track);

@@ -63,7 +63,8 @@ fn same_kind(one: &str, other: &str) -> bool {
     words(one) == words(other)
 }
 
-/// Runs every part in order; `progress` is told of each part while it runs.
+/// Runs the parts in order, and none after one with a disagreement;
+/// `progress` is told of each part while it runs.
 pub fn run(
     pair: Pair,
     plan: &Plan,
@@ -86,7 +87,10 @@ pub fn run(
     for (part, limit, source) in parts {
         let (row, failed) = run_part(part, pair, limit, source, &|tally| progress(part, tally));
         rows.push(row);
-        failures.extend(failed);
+        failures = failed;
+        if !failures.is_empty() {
+            break;
+        }
     }
     (rows, failures)
 }

@@ -1,0 +1,115 @@
+//! The cut bench finds stores that are wrong on purpose, and gives a short
+//! history that shows it.
+
+#[path = "common/wrong.rs"]
+mod wrong;
+
+use bench::cutbench::parts::{run, Failure, Limit, Pair, Plan};
+use bench::cutbench::{fault, history, text, Op};
+use bench::store::{Plain, Proved};
+use wrong::Wrong;
+
+fn first_failure(pair: Pair, histories: u64) -> Option<Failure> {
+    let plan = Plan {
+        seed: 5,
+        random: Limit::Histories(histories),
+        hostile: Limit::Histories(histories),
+        most: 0,
+    };
+    run(pair, &plan, &|_, _| ()).1.into_iter().next()
+}
+
+/// The failure in its shortest form, which is looked at.
+fn found(pair: Pair) -> Failure {
+    let failure = first_failure(pair, 300).expect("the fault is found");
+    let whole = failure.history.len();
+    let small = pair.smallest(failure);
+    assert!(small.history.len() <= whole);
+    println!("{}\n{}", small.what, text(&small.history));
+    assert!(small.history.len() <= 12, "{}", text(&small.history));
+    for i in 0..small.history.len() {
+        let mut shorter = small.history.clone();
+        shorter.remove(i);
+        let wrong = fault(pair.0, pair.1, &shorter).1;
+        assert!(wrong.is_none_or(|(_, what)| what != small.what));
+    }
+    let again = history(&text(&small.history)).expect("its own text is read");
+    assert_eq!(again, small.history);
+    let (_, wrong) = fault(pair.0, pair.1, &again);
+    assert_eq!(wrong, Some((again.len() - 1, small.what.clone())));
+    assert_eq!(fault(&Plain, &Plain, &again).1, None);
+    assert_eq!(fault(&Proved, &Plain, &again).1, None);
+    small
+}
+
+fn has_cut(list: &[Op]) -> bool {
+    let cut = |op: &Op| {
+        matches!(
+            op,
+            Op::Try(_) | Op::All(_) | Op::Exactly(..) | Op::Cut(_) | Op::CutIn(..)
+        )
+    };
+    list.iter().any(cut)
+}
+
+/// A store beside itself agrees in every byte: the cuts alone must tell.
+#[test]
+fn cuts_alone_find_what_a_cut_shows() {
+    for wrong in [Wrong::TableFirst, Wrong::Reuses, Wrong::InPlace] {
+        let small = found(Pair(&wrong, &wrong));
+        assert!(has_cut(&small.history), "{wrong:?}");
+        assert!(small.what.starts_with("a card"), "{}", small.what);
+    }
+}
+
+#[test]
+fn reading_back_finds_syncs_that_only_say_so_and_made_up_counts() {
+    for wrong in [Wrong::FirstSyncOnly, Wrong::MakesUpFree] {
+        found(Pair(&wrong, &wrong));
+    }
+}
+
+#[test]
+fn comparing_finds_every_wrong_byte_and_number() {
+    for wrong in [
+        Wrong::Reuses,
+        Wrong::InPlace,
+        Wrong::FirstSyncOnly,
+        Wrong::LandsBeside,
+        Wrong::MarksRefusals,
+        Wrong::MakesUpFree,
+        Wrong::Says2As0,
+    ] {
+        found(Pair(&wrong, &Plain));
+    }
+}
+
+#[test]
+fn twelve_unsettled_sectors_make_4096_cards() {
+    let nine = "fresh 30 1 1; mount; put b 4608 2; sync; put b 4608 3; exactly 12 4096";
+    let (tally, wrong) = fault(&Proved, &Plain, &history(nine).expect("a history"));
+    assert_eq!(wrong, None);
+    assert!(tally.cards >= 4_096);
+    let ten = nine.replace("4608 3", "4609 3");
+    let (_, wrong) = fault(&Proved, &Plain, &history(&ten).expect("a history"));
+    assert_eq!(wrong.map(|(at, _)| at), Some(5));
+}
+
+#[test]
+fn text_that_is_no_history_is_refused() {
+    for bad in [
+        "put a",
+        "land",
+        "put a 1 2 3",
+        "fresh 1 2 x",
+        "poke disk 1 2",
+        "?",
+    ] {
+        assert!(history(bad).is_err(), "{bad}");
+    }
+    let names = "put % 0 1; put %25%3b%23 3 1 # a remark\nremove %00%ff";
+    let list = history(names).expect("a history");
+    assert_eq!(list.len(), 3);
+    assert_eq!(list[2], Op::Remove(vec![0, 255]));
+    assert_eq!(history(&text(&list)), Ok(list));
+}

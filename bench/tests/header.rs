@@ -1,0 +1,29 @@
+//! The C header compiles without a warning, and a C host can use the store.
+
+use std::path::Path;
+use std::process::Command;
+
+#[test]
+fn a_c_host_runs_a_few_lines_of_the_sheet() {
+    let here = Path::new(env!("CARGO_MANIFEST_DIR"));
+    let program = Path::new(env!("CARGO_TARGET_TMPDIR")).join("sheet");
+    let compiled = Command::new("cc")
+        .args([
+            "-std=c99",
+            "-Wall",
+            "-Wextra",
+            "-Wpedantic",
+            "-Werror",
+            "-I",
+        ])
+        .arg(here.join("include"))
+        .arg(here.join("tests/c/sheet.c"))
+        .arg(here.join("../target/staticlib/libhost.a"))
+        .arg("-o")
+        .arg(&program)
+        .status()
+        .expect("cc runs, as it does to link this test");
+    assert!(compiled.success());
+    let ended = Command::new(program).status().expect("the program runs");
+    assert_eq!(ended.code(), Some(0));
+}
