@@ -1,7 +1,10 @@
-//! Times of the six calls of the proved store beside the plain version.
+//! Times and stack of the six calls of the proved store beside the plain
+//! version, as tables.
 
 mod bed;
+mod page;
 mod table;
 mod timing;
 
-pub use table::run;
+pub use page::with_tables;
+pub use table::tables;

@@ -3,8 +3,9 @@
 use super::op::Op;
 use super::parse::history;
 
-/// The histories whose cards number at most 2 to the `most`. The first two
-/// leave twelve sectors unsettled, of two values each: 4,096 cards.
+/// The histories whose cards number at most 2 to the `most`, which is 14 or
+/// 20. Two of them leave twelve sectors unsettled, of two values each: 4,096
+/// cards.
 pub fn all(most: u32) -> Vec<Vec<Op>> {
     let one_put = |sectors: usize| {
         let bytes = 512 * sectors;
@@ -18,11 +19,15 @@ pub fn all(most: u32) -> Vec<Vec<Op>> {
     let after_cuts = "fresh 40 1 1; mount; put a 1000 1; sync; put b 4000 2; land 7; land 8;
          cut-in sync 20 5; mount; put c 600 3; cut 7; mount; put d 4500 4; exactly 12 4096";
     let fixed = [after_cuts, REMOVED, THREE_PUTS, REPLACED, LAST_COUNT];
-    let larger = [13, 15, 16, 17].map(one_put);
-    let mut list = vec![one_put(9)];
+    let larger: &[usize] = if most < 20 {
+        &[11]
+    } else {
+        &[17, 16, 15, 13, 11]
+    };
+    // The longest first, so that the cores end together.
+    let mut list: Vec<String> = larger.iter().map(|sectors| one_put(*sectors)).collect();
+    list.push(one_put(9));
     list.extend(fixed.map(String::from));
-    list.push(one_put(11));
-    list.extend(larger.into_iter().filter(|_| most >= 20));
     let parsed = |text: &String| history(text).expect("a history of this file");
     list.iter().map(parsed).collect()
 }

@@ -4,8 +4,11 @@ use crate::host::SessionBytes;
 use crate::plain::{self, Session, SECTOR};
 use crate::store::Store;
 
-/// S, T and D of the measured cards.
-pub const CARDS: [(u32, u32, u32); 4] = [(10, 1, 1), (256, 8, 8), (4_096, 8, 8), (4_096, 512, 64)];
+/// S, T and D.
+pub type Geometry = (u32, u32, u32);
+
+/// The measured cards.
+pub const CARDS: [Geometry; 4] = [(10, 1, 1), (256, 8, 8), (4_096, 8, 8), (4_096, 512, 64)];
 
 /// The measured calls. A put has a number of sectors.
 #[derive(Clone, Copy, Debug, PartialEq, Eq)]
@@ -16,9 +19,12 @@ pub enum Call {
     Put(usize),
     Sync,
     Land,
+    /// A land of sector S, which is refused with 11 after the fit test.
+    Fit,
 }
 
-pub const CALLS: [Call; 8] = [
+/// All of them, in the order of the tables.
+pub const CALLS: [Call; 9] = [
     Call::Make,
     Call::Read,
     Call::Mount,
@@ -27,6 +33,7 @@ pub const CALLS: [Call; 8] = [
     Call::Put(16),
     Call::Sync,
     Call::Land,
+    Call::Fit,
 ];
 
 impl Call {
@@ -39,6 +46,7 @@ impl Call {
             Call::Put(sectors) => format!("put {sectors}"),
             Call::Sync => "sync".into(),
             Call::Land => "land".into(),
+            Call::Fit => "land, no such sector".into(),
         }
     }
 }
@@ -46,7 +54,7 @@ impl Call {
 /// Two images and a session, from which calls start.
 #[derive(Clone)]
 pub struct Bed {
-    pub geometry: (u32, u32, u32),
+    pub geometry: Geometry,
     pub card: Vec<u8>,
     pub work: Vec<u8>,
     pub session: SessionBytes,
@@ -57,7 +65,7 @@ pub struct Bed {
 impl Bed {
     /// The state from which a call is measured: a fresh card, or one with a
     /// full directory and about half of its data in use.
-    pub fn before(call: Call, geometry: (u32, u32, u32), full: bool) -> Bed {
+    pub fn before(call: Call, geometry: Geometry, full: bool) -> Bed {
         let (s, t, d) = geometry;
         let mut card = vec![0xEE; SECTOR * s as usize];
         assert_eq!(plain::make(s, t, d, &mut card), plain::DONE);
@@ -102,7 +110,7 @@ impl Bed {
             return;
         }
         let (_, session) = plain::mount(&mut self.card, &mut self.work);
-        if matches!(call, Call::Sync | Call::Land) {
+        if matches!(call, Call::Sync | Call::Land | Call::Fit) {
             let number = plain::put(&session, &mut self.work, &self.name, &[1; SECTOR]);
             assert_eq!(number, plain::DONE);
         }
@@ -126,6 +134,7 @@ impl Bed {
             Call::Put(_) => store.put(&self.session, &mut self.work, &self.name, content),
             Call::Sync => store.sync(&mut self.session, &mut self.card, &mut self.work),
             Call::Land => store.land(&self.session, &mut self.card, &self.work, t + 4 + d),
+            Call::Fit => store.land(&self.session, &mut self.card, &self.work, s),
         }
     }
 }

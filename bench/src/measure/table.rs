@@ -1,69 +1,75 @@
-//! The printed tables.
+//! The measured rows and the tables made of them.
 
-use super::bed::{Bed, Call, CALLS, CARDS};
+use super::bed::{Bed, Call, Geometry, CALLS, CARDS};
 use super::timing::{clock, content_bytes, measure, Measured};
 use crate::stack;
 use crate::store::{Plain, Proved, Store};
+use std::fmt::Write;
 
-/// Measures everything and prints the tables.
-pub fn run() {
-    println!("Medians in nanoseconds; before each timed call both images are copied");
-    println!("afresh from a template, so no buffer is cleared and all are as warm as the");
-    println!("cache allows. Proved and plain take turns. The clock's own time,");
-    println!(
-        "{} ns, is taken off. Stack in bytes from the caller's frame;",
-        clock()
-    );
-    println!("a call that does nothing reads {}.\n", stack::floor());
-    println!("| S, T, D | directory | call | number | proved | plain | proved / plain | proved stack | plain stack |");
-    println!("|---|---|---|---|---|---|---|---|---|");
-    let mut syncs = Vec::new();
-    let mut growth = Vec::new();
-    for geometry in CARDS {
-        for full in [false, true] {
-            let mut land = 1.0;
-            let mut sync = None;
-            for call in CALLS {
-                let bed = Bed::before(call, geometry, full);
-                let measured = measure(call, &bed);
-                line(geometry, full, call, &measured, &bed);
-                match call {
-                    Call::Land => land = measured.proved,
-                    Call::Sync => sync = Some(measured),
-                    _ => {}
-                }
-                growth.push((geometry, full, call, measured));
-            }
-            syncs.push((geometry, full, sync.expect("a sync"), land));
+/// One measured call.
+struct Row {
+    geometry: Geometry,
+    full: bool,
+    call: Call,
+    measured: Measured,
+    /// Stack of the proved store and of the plain version.
+    stack: [usize; 2],
+}
+
+impl Row {
+    fn take(geometry: Geometry, full: bool, call: Call) -> Row {
+        let bed = Bed::before(call, geometry, full);
+        let stores: [&dyn Store; 2] = [&Proved, &Plain];
+        Row {
+            geometry,
+            full,
+            call,
+            measured: measure(call, &bed),
+            stack: stores.map(|store| stack_of(store, call, &bed)),
         }
     }
-    print_syncs(&syncs);
-    print_growth(&growth);
-}
 
-type Geometry = (u32, u32, u32);
-
-fn line(geometry: Geometry, full: bool, call: Call, m: &Measured, bed: &Bed) {
-    let (s, t, d) = geometry;
-    println!(
-        "| {s}, {t}, {d} | {} | {} | {} | {:.0} | {:.0} | {:.2} | {} | {} |",
-        filling(full),
-        call.name(),
-        m.number,
-        m.proved,
-        m.plain,
-        m.proved / m.plain,
-        stack_of(&Proved, call, bed),
-        stack_of(&Plain, call, bed)
-    );
-}
-
-fn filling(full: bool) -> &'static str {
-    if full {
-        "full"
-    } else {
-        "fresh"
+    fn ratio(&self) -> f64 {
+        self.measured.proved / self.measured.plain
     }
+
+    /// The first cells of a line.
+    fn head(&self) -> String {
+        let (s, t, d) = self.geometry;
+        let directory = if self.full { "full" } else { "fresh" };
+        format!("| {s}, {t}, {d} | {directory} |")
+    }
+}
+
+/// Measures everything: the tables as text.
+pub fn tables() -> String {
+    let mut rows = Vec::new();
+    for geometry in CARDS {
+        for full in [false, true] {
+            // A make does not see what the card held.
+            let calls = CALLS.iter().filter(|c| !full || **c != Call::Make);
+            rows.extend(calls.map(|call| Row::take(geometry, full, *call)));
+        }
+    }
+    [machine(), calls(&rows), syncs(&rows), growth(&rows)].join("\n")
+}
+
+fn machine() -> String {
+    let info = std::fs::read_to_string("/proc/cpuinfo").unwrap_or_default();
+    let model = info.lines().find(|line| line.starts_with("model name"));
+    let model = model.and_then(|line| line.split(": ").nth(1));
+    let cores = std::thread::available_parallelism().map_or(1, |n| n.get());
+    format!(
+        "{}, {cores} cores.\n\n\
+         Times are medians in nanoseconds. Before each timed call both images and the session\n\
+         are copied afresh from a template: no buffer is cleared, and all are as warm as the\n\
+         cache allows. The proved store and the plain version take turns within one run. The\n\
+         clock's own {} ns are taken off. Stack is in bytes from the caller's frame down; a\n\
+         call that does nothing reads {}.\n",
+        model.unwrap_or("unknown processor"),
+        clock(),
+        stack::floor()
+    )
 }
 
 fn stack_of(store: &dyn Store, call: Call, bed: &Bed) -> usize {
@@ -74,39 +80,82 @@ fn stack_of(store: &dyn Store, call: Call, bed: &Bed) -> usize {
     })
 }
 
-fn print_syncs(syncs: &[(Geometry, bool, Measured, f64)]) {
-    println!("\nSync beside one plain copy of the bytes it moves; a land is about one fit test.\n");
-    println!("| S, T, D | directory | sync | copy | land | sync / copy | sync / (copy + land) | (sync - land) / copy |");
-    println!("|---|---|---|---|---|---|---|---|");
-    for ((s, t, d), full, m, land) in syncs {
-        println!(
-            "| {s}, {t}, {d} | {} | {:.0} | {:.0} | {land:.0} | {:.2} | {:.2} | {:.2} |",
-            filling(*full),
+fn calls(rows: &[Row]) -> String {
+    let mut text = String::from(
+        "| S, T, D | directory | call | gives | proved | plain | proved / plain | proved stack | plain stack |\n\
+         |---|---|---|--:|--:|--:|--:|--:|--:|\n",
+    );
+    for row in rows {
+        let (m, [proved, plain]) = (&row.measured, row.stack);
+        let name = row.call.name();
+        let _ = writeln!(
+            text,
+            "{} {name} | {} | {:.0} | {:.0} | {} | {proved} | {plain} |",
+            row.head(),
+            m.number,
             m.proved,
-            m.copy,
-            m.proved / m.copy,
-            m.proved / (m.copy + land),
-            (m.proved - land) / m.copy
+            m.plain,
+            marked(row.ratio(), 1.0)
         );
+    }
+    let above = rows.iter().filter(|row| row.ratio() >= 1.005).count();
+    let _ = writeln!(text, "\nRatios above 1.00: {above} of {}.", rows.len());
+    text
+}
+
+/// A ratio, in bold where it is above its aim.
+fn marked(ratio: f64, aim: f64) -> String {
+    if ratio >= aim + 0.005 {
+        format!("**{ratio:.2}**")
+    } else {
+        format!("{ratio:.2}")
     }
 }
 
-fn print_growth(rows: &[(Geometry, bool, Call, Measured)]) {
-    println!("\nGrowth from S = 256 to S = 4,096 (16 times the sectors), T = 8, D = 8.\n");
-    println!("| directory | call | proved | plain |");
-    println!("|---|---|---|---|");
-    for (_, full, call, small) in rows.iter().filter(|row| row.0 == CARDS[1]) {
-        let large = rows
-            .iter()
-            .find(|row| row.0 == CARDS[2] && row.1 == *full && row.2 == *call);
-        if let Some((_, _, _, large)) = large {
-            println!(
-                "| {} | {} | {:.1} | {:.1} |",
-                filling(*full),
-                call.name(),
-                large.proved / small.proved,
-                large.plain / small.plain
-            );
-        }
+fn syncs(rows: &[Row]) -> String {
+    let mut text = String::from(
+        "Sync beside one plain copy of the bytes that it moves. The fit test alone is a\n\
+         land of a sector that is not there, timed in the same run.\n\n\
+         | S, T, D | directory | sync | copy | fit | sync / copy | (sync - fit) / copy |\n\
+         |---|---|--:|--:|--:|--:|--:|\n",
+    );
+    for row in rows.iter().filter(|row| row.call == Call::Sync) {
+        let m = &row.measured;
+        let _ = writeln!(
+            text,
+            "{} {:.0} | {:.0} | {:.0} | {:.2} | {} |",
+            row.head(),
+            m.proved,
+            m.copy,
+            m.fit,
+            m.proved / m.copy,
+            marked((m.proved - m.fit) / m.copy, 1.3)
+        );
     }
+    text
+}
+
+fn growth(rows: &[Row]) -> String {
+    let mut text = String::from(
+        "Growth from S = 256 to S = 4,096, 16 times the sectors, with T = 8 and D = 8.\n\n\
+         | directory | call | proved | plain |\n\
+         |---|---|--:|--:|\n",
+    );
+    for small in rows.iter().filter(|row| row.geometry == CARDS[1]) {
+        let same = |row: &&Row| row.full == small.full && row.call == small.call;
+        let mut larger = rows.iter().filter(|row| row.geometry == CARDS[2]);
+        let Some(large) = larger.find(same) else {
+            continue;
+        };
+        let (s, l) = (&small.measured, &large.measured);
+        let _ = writeln!(
+            text,
+            "| {} | {} | {:.1} | {:.1} |",
+            if small.full { "full" } else { "fresh" },
+            small.call.name(),
+            l.proved / s.proved,
+            l.plain / s.plain
+        );
+    }
+    text
 }

@@ -12,8 +12,10 @@ pub struct Measured {
     pub number: u32,
     pub proved: f64,
     pub plain: f64,
-    /// One copy of the bytes that a sync moves.
+    /// For a sync, one copy of the bytes that it moves.
     pub copy: f64,
+    /// For a sync, the proved store's fit test alone.
+    pub fit: f64,
 }
 
 /// Most runs of a call, and the time after which there are no more.
@@ -27,7 +29,7 @@ const LONGEST: Duration = Duration::from_millis(400);
 pub fn measure(call: Call, from: &Bed) -> Measured {
     let content = vec![7; content_bytes(call)];
     let mut bed = from.clone();
-    let mut times: [Vec<f64>; 3] = Default::default();
+    let mut times: [Vec<f64>; 4] = Default::default();
     let mut numbers = [0; 2];
     let begun = Instant::now();
     let stores: [&dyn Store; 2] = [&Proved, &Plain];
@@ -41,18 +43,22 @@ pub fn measure(call: Call, from: &Bed) -> Measured {
             times[turn].push(time);
             numbers[turn] = number;
         }
-        bed.prepare(from);
-        times[2].push(timed(|| copy_of_a_sync(&mut bed)).0);
+        if call == Call::Sync {
+            bed.prepare(from);
+            times[2].push(timed(|| copy_of_a_sync(&mut bed)).0);
+            bed.prepare(from);
+            times[3].push(timed(|| bed.call(&Proved, Call::Fit, &[])).0);
+        }
     }
     assert_eq!(numbers[0], numbers[1]);
     let idle = clock();
-    let [proved, plain, copy] = times.map(|list| (median(list) - idle).max(0.1));
-    let number = numbers[0];
+    let [proved, plain, copy, fit] = times.map(|list| (median(list) - idle).max(0.1));
     Measured {
-        number,
+        number: numbers[0],
         proved,
         plain,
         copy,
+        fit,
     }
 }
 
@@ -75,9 +81,10 @@ fn copy_of_a_sync(bed: &mut Bed) {
     black_box(&mut bed.card);
 }
 
-pub fn median(mut list: Vec<f64>) -> f64 {
+/// The middle of a list, 0 if it is empty.
+fn median(mut list: Vec<f64>) -> f64 {
     list.sort_by(f64::total_cmp);
-    list[list.len() / 2]
+    list.get(list.len() / 2).copied().unwrap_or(0.0)
 }
 
 /// The content of a put of so many sectors; its last byte is missing.
