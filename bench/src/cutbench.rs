@@ -35,5 +35,5 @@ mod world;
 pub use op::{Cuttable, Op, Which};
 pub use parse::{history, text};
 pub use shrink::{fault, shrink};
-pub use summary::{table, Row, Tally};
+pub use summary::{table, total, Row, Tally};
 pub use world::{Outcome, World};

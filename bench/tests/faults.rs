@@ -46,7 +46,7 @@ fn has_cut(list: &[Op]) -> bool {
     let cut = |op: &Op| {
         matches!(
             op,
-            Op::Try(_) | Op::All(_) | Op::Exactly(..) | Op::Cut(_) | Op::CutIn(..)
+            Op::Try(_) | Op::All(_) | Op::Exactly(..) | Op::AllIn(..) | Op::Cut(_) | Op::CutIn(..)
         )
     };
     list.iter().any(cut)

@@ -2,7 +2,7 @@
 //! `cutbench --replay FILE-OR-TEXT`. Ends with 1 on any disagreement.
 
 use bench::cutbench::parts::{run, Failure, Limit, Pair, Plan};
-use bench::cutbench::{fault, history, table, text, Tally};
+use bench::cutbench::{fault, history, table, text, total, Tally};
 use bench::store::{Plain, Proved};
 use std::env;
 use std::fs;
@@ -91,11 +91,15 @@ fn bench(plan: &Plan) -> bool {
     }
     print!("{}", table(&rows));
     let agreed = failures.is_empty();
+    let complete = total(&rows).tally.gave_all();
+    if agreed && !complete {
+        println!("\na call did not give all of its numbers, or gave another");
+    }
     for failure in failures {
         let Failure { history, what } = PAIR.smallest(failure);
         println!("\ndisagreement: {what}\nreplay:\n{}", text(&history));
     }
-    agreed
+    agreed && complete
 }
 
 /// Runs one history, from a file or as given, and says what happens.

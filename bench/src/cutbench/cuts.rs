@@ -1,6 +1,7 @@
 //! Cuts: between calls, inside calls, and all that there can be.
 
 use super::choices::Choices;
+use super::files::Files;
 use super::image::Image;
 use super::op::Cuttable;
 use super::track::Track;
@@ -66,16 +67,47 @@ impl World<'_> {
         ))
     }
 
+    /// Looks at every card that a cut inside a call could leave, before its
+    /// first step and after each, unless there are more than `most`.
+    pub(super) fn all_in(&mut self, call: Cuttable, most: u128) -> Outcome {
+        let list = self.steps_of(call).unwrap_or_default();
+        let Some(track) = self.track.take() else {
+            return Ok(());
+        };
+        let mut choices = if self.ends_session(call) {
+            Choices::settled(&self.card())
+        } else {
+            track.choices.clone()
+        };
+        for done in 0..=list.len() {
+            if let Some(last) = done.checked_sub(1) {
+                choices.step(&list[last]);
+            }
+            if choices.cards() <= most {
+                self.tally.cuts += 1;
+                let allowed = track.allowed(&list[..done]);
+                choices.each(|card| self.look(card, &allowed).map(|_| ()))?;
+            }
+        }
+        self.track = Some(track);
+        Ok(())
+    }
+
     /// The power goes off now.
     pub(super) fn cut(&mut self, seed: u64) -> Outcome {
         self.cut_after(&[], seed)
     }
 
-    /// The power goes off inside a call, after some of its steps. A mount
-    /// that begins while a session is open has ended that one by a cut.
+    /// Whether a call is a mount while a session is open, which counts as a
+    /// cut at which the card stays as it is.
+    fn ends_session(&self, call: Cuttable) -> bool {
+        call == Cuttable::Mount && self.session() != Session::Closed
+    }
+
+    /// The power goes off inside a call, after some of its steps.
     pub(super) fn cut_in(&mut self, call: Cuttable, done: usize, seed: u64) -> Outcome {
         let list = self.steps_of(call).unwrap_or_default();
-        if call == Cuttable::Mount && self.session() != Session::Closed {
+        if self.ends_session(call) {
             let card = self.card();
             self.track = self.track.take().map(|t| Track::settled(&card, t.shown));
         }
@@ -89,11 +121,7 @@ impl World<'_> {
         self.tally.cuts += 1;
         done.iter().for_each(|step| track.choices.step(step));
         let card = track.choices.pick(&mut Dice::new(seed));
-        let allowed = match moment(done) {
-            Moment::Before => vec![&track.shown],
-            Moment::Between => vec![&track.shown, &track.present],
-            Moment::After => vec![&track.present],
-        };
+        let allowed = track.allowed(done);
         let place = self.look(&card, &allowed)?;
         let files = allowed[place].clone();
         for side in &mut self.sides {
@@ -106,20 +134,17 @@ impl World<'_> {
     }
 }
 
-/// Where a cut falls: the table sector of a sync follows its first barrier
-/// and has landed with the second. A mount has no table sector.
-enum Moment {
-    Before,
-    Between,
-    After,
-}
-
-fn moment(done: &[Step]) -> Moment {
-    let mut parts = done.split(|step| *step == Step::Barrier);
-    let (first, second) = (parts.next(), parts.next());
-    match (first, second, parts.next()) {
-        (_, _, Some(_)) => Moment::After,
-        (_, Some([_, ..]), None) => Moment::Between,
-        _ => Moment::Before,
+impl Track {
+    /// The lists of files that a card may show after a cut that follows these
+    /// steps of a call. The table sector of a sync comes after its first
+    /// barrier and has landed with the second; a mount has no table sector.
+    fn allowed(&self, done: &[Step]) -> Vec<&Files> {
+        let mut parts = done.split(|step| *step == Step::Barrier);
+        let (_, second, third) = (parts.next(), parts.next(), parts.next());
+        match (second, third) {
+            (_, Some(_)) => vec![&self.present],
+            (Some([_, ..]), None) => vec![&self.shown, &self.present],
+            _ => vec![&self.shown],
+        }
     }
 }

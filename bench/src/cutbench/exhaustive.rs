@@ -18,7 +18,9 @@ pub fn all(most: u32) -> Vec<Vec<Op>> {
     };
     let after_cuts = "fresh 40 1 1; mount; put a 1000 1; sync; put b 4000 2; land 7; land 8;
          cut-in sync 20 5; mount; put c 600 3; cut 7; mount; put d 4500 4; exactly 12 4096";
-    let fixed = [after_cuts, REMOVED, THREE_PUTS, REPLACED, LAST_COUNT];
+    let fixed = [
+        after_cuts, REMOVED, THREE_PUTS, REPLACED, LAST_COUNT, INSIDE,
+    ];
     let larger: &[usize] = if most < 20 {
         &[11]
     } else {
@@ -44,3 +46,7 @@ const REPLACED: &str = "fresh 20 1 1; mount; put a 1024 1; sync; put a 1024 2; p
 /// The last transaction count of the last crash count.
 const LAST_COUNT: &str = "fresh 30 1 1; poke card 0 127; poke card 1020 2147483646; mount;
     put a 1500 1; put b 1500 2; exactly 9 1152; sync; exactly 0 1";
+/// All cards at every step of sync, unmount and mount.
+const INSIDE: &str = "fresh 18 1 1; mount; put a 600 1; put b 100 2; sync; remove b;
+    put a 2000 3; all-in sync 4096; all-in unmount 4096; land 8; sync; put c 1100 4;
+    all-in sync 4096; all-in mount 4096; unmount; exactly 1 2; all-in mount 4096";

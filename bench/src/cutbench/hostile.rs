@@ -3,7 +3,7 @@
 
 use super::op::{Op, Which};
 use crate::dice::Dice;
-use crate::plain::TOP;
+use crate::plain::{self, TOP};
 use crate::stored;
 
 /// Words that sit at some bound.
@@ -29,14 +29,27 @@ const BOUNDS: [u32; 18] = [
 ];
 
 /// The stored cards of few sectors, by name.
-pub fn small_cards() -> Vec<&'static str> {
-    let small = stored::all().into_iter().filter(|c| c.bytes.len() <= 6_144);
-    small.map(|card| card.name).collect()
+pub struct Cards {
+    all: Vec<&'static str>,
+    /// Those that are sound.
+    good: Vec<&'static str>,
+}
+
+impl Cards {
+    pub fn small() -> Cards {
+        let mut small = stored::all();
+        small.retain(|card| card.bytes.len() <= 6_144);
+        let good = small.iter().filter(|card| plain::read(&card.bytes).is_ok());
+        Cards {
+            good: good.map(|card| card.name).collect(),
+            all: small.iter().map(|card| card.name).collect(),
+        }
+    }
 }
 
 /// A history: some state, then again and again from there a few mutations and
 /// a few calls.
-pub fn random(dice: &mut Dice, cards: &[&str]) -> Vec<Op> {
+pub fn random(dice: &mut Dice, cards: &Cards) -> Vec<Op> {
     let mut list = beginning(dice, cards);
     list.push(Op::Save);
     for _ in 0..40 {
@@ -51,12 +64,13 @@ pub fn random(dice: &mut Dice, cards: &[&str]) -> Vec<Op> {
     list
 }
 
-fn beginning(dice: &mut Dice, cards: &[&str]) -> Vec<Op> {
+fn beginning(dice: &mut Dice, cards: &Cards) -> Vec<Op> {
     let mut list = match dice.below(16) {
         0 => vec![Op::Noise(Which::Card, dice.below(6_000), dice.roll())],
         1..=3 => vec![Op::Fresh(7 + dice.below(6) as u32, 1, 1)],
         4 => vec![Op::Fresh(70 + dice.below(9) as u32, 1, 64)],
-        _ => vec![Op::Stored(dice.one_of(cards).to_string())],
+        5..=6 => vec![Op::Stored(dice.one_of(&cards.all).to_string())],
+        _ => vec![Op::Stored(dice.one_of(&cards.good).to_string())],
     };
     list.push(Op::Mount);
     for _ in 0..dice.below(5) {

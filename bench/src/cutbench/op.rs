@@ -44,6 +44,9 @@ pub enum Op {
     /// Just so many sectors are unsettled, and every card that a cut could
     /// leave is looked at and counted: just so many.
     Exactly(usize, u64),
+    /// Looks at every card that a cut inside a call could leave, after each
+    /// number of its steps, where there are not more; the history goes on.
+    AllIn(Cuttable, u64),
     /// A cut: the session ends with some card that it can leave.
     Cut(u64),
     /// A cut inside a call, after so many of its steps.
@@ -98,6 +101,7 @@ impl fmt::Display for Op {
             Op::Try(seed) => write!(f, "try {seed}"),
             Op::All(most) => write!(f, "all {most}"),
             Op::Exactly(sectors, cards) => write!(f, "exactly {sectors} {cards}"),
+            Op::AllIn(call, most) => write!(f, "all-in {call} {most}"),
             Op::Cut(seed) => write!(f, "cut {seed}"),
             Op::CutIn(call, steps, seed) => write!(f, "cut-in {call} {steps} {seed}"),
             Op::Stored(name) => write!(f, "stored {name}"),

@@ -39,6 +39,7 @@ fn op(line: &str) -> Option<Op> {
         "try" => Op::Try(number(w)?),
         "all" => Op::All(number(w)?),
         "exactly" => Op::Exactly(number(w)?, number(w)?),
+        "all-in" => Op::AllIn(cuttable(w)?, number(w)?),
         "cut" => Op::Cut(number(w)?),
         "cut-in" => Op::CutIn(cuttable(w)?, number(w)?, number(w)?),
         "stored" => Op::Stored(w.next()?.to_string()),

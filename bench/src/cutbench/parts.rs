@@ -70,7 +70,7 @@ pub fn run(
     plan: &Plan,
     progress: &(dyn Fn(&str, Tally) + Sync),
 ) -> (Vec<Row>, Vec<Failure>) {
-    let cards = hostile::small_cards();
+    let cards = hostile::Cards::small();
     let (fixed, scripts) = (exhaustive::all(plan.most), edges::all());
     let dice = |part, i| Dice::new(Dice::seed_of(plan.seed, part, i));
     let random = |i| Some(histories::random(&mut dice(1, i), 60));

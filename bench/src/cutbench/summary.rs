@@ -14,6 +14,48 @@ pub struct Tally {
     pub cuts: u64,
     /// Cards read back and compared with the files that they must show.
     pub cards: u64,
+    /// How often each of the six calls gave each number.
+    pub given: [[u64; 12]; 6],
+}
+
+/// One of the six calls, as a row of the numbers given.
+#[derive(Clone, Copy, Debug, PartialEq, Eq)]
+pub enum Six {
+    Make,
+    Read,
+    Mount,
+    Put,
+    Sync,
+    Land,
+}
+
+/// The six calls with the numbers that the paper lets each give.
+const NUMBERS: [(Six, &[usize]); 6] = [
+    (Six::Make, &[0, 1]),
+    (Six::Read, &[0, 1, 2]),
+    (Six::Mount, &[0, 1, 2, 3]),
+    (Six::Put, &[0, 2, 4, 5, 7, 8, 9]),
+    (Six::Sync, &[0, 1, 2, 4, 9]),
+    (Six::Land, &[0, 1, 2, 4, 11]),
+];
+
+impl Tally {
+    /// Counts a call and its number.
+    pub fn count(&mut self, call: Six, number: u32) {
+        self.calls += 1;
+        let row = &mut self.given[call as usize];
+        if let Some(place) = row.get_mut(number as usize) {
+            *place += 1;
+        }
+    }
+
+    /// Whether every call gave each number of its own, and no other.
+    pub fn gave_all(&self) -> bool {
+        NUMBERS.iter().all(|(call, own)| {
+            let row = &self.given[*call as usize];
+            (0..row.len()).all(|n| (row[n] > 0) == own.contains(&n))
+        })
+    }
 }
 
 impl AddAssign for Tally {
@@ -23,6 +65,10 @@ impl AddAssign for Tally {
         self.landed += other.landed;
         self.cuts += other.cuts;
         self.cards += other.cards;
+        let places = self.given.iter_mut().flatten();
+        places
+            .zip(other.given.iter().flatten())
+            .for_each(|(sum, n)| *sum += n);
     }
 }
 
@@ -34,12 +80,8 @@ pub struct Row {
     pub seconds: f64,
 }
 
-/// The summary, with a last line for all parts.
-pub fn table(rows: &[Row]) -> String {
-    let mut text = format!(
-        "{:<12}{:>11}{:>12}{:>10}{:>10}{:>10}{:>15}{:>9}\n",
-        "part", "histories", "calls", "lands", "cuts", "cards", "disagreements", "seconds"
-    );
+/// All parts together.
+pub fn total(rows: &[Row]) -> Row {
     let mut all = Row {
         part: "all",
         tally: Tally::default(),
@@ -47,12 +89,35 @@ pub fn table(rows: &[Row]) -> String {
         seconds: 0.0,
     };
     for row in rows {
-        text += &line(row);
         all.tally += row.tally;
         all.disagreements += row.disagreements;
         all.seconds += row.seconds;
     }
-    text + &line(&all)
+    all
+}
+
+/// The summary, with a last line for all parts, and the numbers given.
+pub fn table(rows: &[Row]) -> String {
+    let mut text = format!(
+        "{:<12}{:>11}{:>12}{:>10}{:>10}{:>10}{:>15}{:>9}\n",
+        "part", "histories", "calls", "lands", "cuts", "cards", "disagreements", "seconds"
+    );
+    let all = total(rows);
+    text.extend(rows.iter().map(line));
+    text + &line(&all) + "\n" + &numbers(&all.tally)
+}
+
+/// A line for each of the six calls: how often it gave each number.
+fn numbers(tally: &Tally) -> String {
+    let mut text = String::from("numbers given\n");
+    for (call, own) in NUMBERS {
+        let row = &tally.given[call as usize];
+        let seen = (0..row.len()).filter(|n| row[*n] > 0 || own.contains(n));
+        let list: Vec<String> = seen.map(|n| format!("{n}: {}", row[n])).collect();
+        let name = format!("{call:?}").to_lowercase();
+        text += &format!("{name:<12}{}\n", list.join(", "));
+    }
+    text
 }
 
 fn line(row: &Row) -> String {

@@ -3,7 +3,7 @@
 use super::files::{files_of, sectors, told, Files};
 use super::image::{Image, Side};
 use super::op::{Op, Which};
-use super::summary::Tally;
+use super::summary::{Six, Tally};
 use super::track::Track;
 use crate::dice::Dice;
 use crate::plain::{self, word, Session, SECTOR};
@@ -60,6 +60,7 @@ impl<'a> World<'a> {
             Op::Try(seed) => self.try_cut(*seed),
             Op::All(most) => self.all_cuts(u128::from(*most)).map(|_| ()),
             Op::Exactly(sectors, cards) => self.exactly(*sectors, *cards),
+            Op::AllIn(call, most) => self.all_in(*call, u128::from(*most)),
             Op::Cut(seed) => self.cut(*seed),
             Op::CutIn(call, steps, seed) => self.cut_in(*call, *steps, *seed),
             meddling => {
@@ -109,15 +110,15 @@ impl<'a> World<'a> {
     }
 
     /// Makes a call on both sides and compares everything. A refusal leaves
-    /// all as it was, but for the session that it is said to give.
+    /// all as it was, but that a refused mount gives the closed session.
     pub(super) fn call(
         &mut self,
-        refused: Option<Session>,
+        six: Six,
         call: impl Fn(&dyn Store, &mut Side) -> u32,
     ) -> Outcome<u32> {
         self.before.copy_from(&self.sides[0]);
         let [one, other] = [0, 1].map(|i| call(self.stores[i], &mut self.sides[i]));
-        self.tally.calls += 1;
+        self.tally.count(six, one);
         if one != other {
             return Err(format!("gives {one}, the plain version {other}"));
         }
@@ -127,8 +128,8 @@ impl<'a> World<'a> {
         if one == plain::DONE {
             return Ok(one);
         }
-        if let Some(session) = refused {
-            self.before.session = session.encode();
+        if six == Six::Mount {
+            self.before.session = Session::Closed.encode();
         }
         match self.sides[0].differs(&self.before) {
             Some(difference) => Err(format!("refused with {one}, but {difference}")),
@@ -146,7 +147,7 @@ impl<'a> World<'a> {
             let mut out = RUBBISH;
             (store.read(card, &mut out), out)
         });
-        self.tally.calls += 1;
+        self.tally.count(Six::Read, one.0);
         if one != other {
             return Err(format!("read gives {one:?}, the plain version {other:?}"));
         }

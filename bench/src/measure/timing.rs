@@ -20,8 +20,8 @@ pub struct Measured {
 
 /// Most runs of a call, and the time after which there are no more.
 const MOST_RUNS: usize = 4_001;
-const LEAST_RUNS: usize = 21;
-const LONGEST: Duration = Duration::from_millis(400);
+const LEAST_RUNS: usize = 51;
+const LONGEST: Duration = Duration::from_millis(800);
 
 /// Measures a call from the state `from`. Before each timed call the buffers
 /// are copied from `from`, so all are in the cache as far as it reaches, and

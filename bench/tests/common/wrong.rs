@@ -34,7 +34,7 @@ impl Store for Wrong {
     fn read(&self, card: &[u8], out: &mut ReportBytes) -> u32 {
         let number = Plain.read(card, out);
         if *self == Wrong::MakesUpFree && number == 0 {
-            out[12] += 1;
+            out[12] = out[12].wrapping_add(1);
         }
         number
     }
