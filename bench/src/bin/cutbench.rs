@@ -51,8 +51,8 @@ fn plan(arguments: &[String]) -> Result<Plan, String> {
     Ok(if short {
         Plan {
             seed: seed.unwrap_or(SHORT_SEED),
-            random: Limit::Histories(1_500),
-            hostile: Limit::Histories(4_000),
+            random: Limit::Histories(1_000),
+            hostile: Limit::Histories(2_000),
             most: 14,
         }
     } else {

@@ -11,18 +11,21 @@ pub const SECTOR_WORDS: usize = 128;
 pub const MOST_SECTORS: u32 = 4_096;
 
 /// Word `i` counted from the start of `sector`. The image must hold it.
+#[inline]
 pub fn word(image: &[u8], sector: u32, i: usize) -> u32 {
     let at = sector as usize * SECTOR + 4 * i;
     u32::from_le_bytes([image[at], image[at + 1], image[at + 2], image[at + 3]])
 }
 
 /// Writes word `i` counted from the start of `sector`. The image must hold it.
+#[inline]
 pub fn set_word(image: &mut [u8], sector: u32, i: usize, value: u32) {
     let at = sector as usize * SECTOR + 4 * i;
     image[at..at + 4].copy_from_slice(&value.to_le_bytes());
 }
 
 /// The places of a sector's bytes in an image.
+#[inline]
 pub fn bytes_of(sector: u32) -> Range<usize> {
     let at = sector as usize * SECTOR;
     at..at + SECTOR
@@ -118,17 +121,20 @@ impl Geometry {
 }
 
 /// Table word `i`. The image must hold it.
+#[inline]
 pub fn table_word(image: &[u8], i: u32) -> u32 {
     word(image, 1, i as usize)
 }
 
 /// Whether the bit of `sector` is set in the apage at `page`.
+#[inline]
 pub fn bit(image: &[u8], page: u32, sector: u32) -> bool {
     let byte = image[page as usize * SECTOR + sector as usize / 8];
     byte & (1 << (sector % 8)) != 0
 }
 
 /// Sets or clears the bit of `sector` in the apage at `page`.
+#[inline]
 pub fn set_bit(image: &mut [u8], page: u32, sector: u32, on: bool) {
     let byte = &mut image[page as usize * SECTOR + sector as usize / 8];
     let mask = 1 << (sector % 8);
