@@ -48,3 +48,9 @@ pub mod Demand
 pub mod CardRun
 pub mod Possible
 pub mod ReadsReads
+pub mod TrialsCard
+pub mod TrialsRun
+pub mod Trials
+pub mod TrialsStore
+pub mod TrialsSync
+pub mod TrialsTable
