@@ -1,5 +1,6 @@
 pub mod Bits
 pub mod BitLaws
+pub mod ByteLaws
 pub mod RunLaws
 pub mod Runs
 pub mod Scan

@@ -29,11 +29,11 @@ mul-n c = search needs
 loop-holds : tie.Need-loop-holds Inv-loop μ-loop
 loop-holds c = (omega arith, refl)
 
-apart-from-requires : tie.Need-apart-from-requires Inv-loop μ-loop
-apart-from-requires c κs = search needs
+alone-requires : tie.Need-alone-requires Inv-loop μ-loop
+alone-requires c κs = search needs
 
 returns : tie.Need-returns Inv-loop μ-loop
-returns c = pair-stop _ _ [] _ _ (entries-lt _ _ _ (c .before .before .loop-test .taken)) (c .before .apart-from .ensures) (c .if1 .taken) (c .before .before .before .loop .inv .1)
+returns c = pair-stop _ _ [] _ _ (entries-lt _ _ _ (c .before .before .loop-test .taken)) (c .before .alone .ensures) (c .if1 .taken) (c .before .before .before .loop .inv .1)
 
 add-i : tie.Need-add-i Inv-loop μ-loop
 add-i c = search needs
@@ -42,7 +42,7 @@ loop-less : tie.Need-loop-less Inv-loop μ-loop
 loop-less c = search needs
 
 loop-again : tie.Need-loop-again Inv-loop μ-loop
-loop-again c = (omega arith, pair-go _ _ [] _ _ (entries-lt _ _ _ (c .before .before .loop-test .taken)) (c .before .apart-from .ensures) (c .if1 .left) (c .before .before .before .loop .inv .1))
+loop-again c = (omega arith, pair-go _ _ [] _ _ (entries-lt _ _ _ (c .before .before .loop-test .taken)) (c .before .alone .ensures) (c .if1 .left) (c .before .before .before .loop .inv .1))
 
 returns-2 : tie.Need-returns-2 Inv-loop μ-loop
 returns-2 c = pair-end _ _ [] _ (entries-le _ _ _ (c .loop-test .left)) (c .before .loop .inv .1)
@@ -56,7 +56,7 @@ names-ok-spec =
     cast-n
     mul-n
     loop-holds
-    apart-from-requires
+    alone-requires
     returns
     add-i
     loop-less
