@@ -4,6 +4,7 @@ ghost use Rattle.card.specs.Plan.{refused, done};
 use entries::Run;
 
 // One line a file: name, bytes, start, sectors.
+#[repr(C)]
 pub struct Line {
     pub size: u32,
     pub name: [u8; 32],
@@ -11,6 +12,7 @@ pub struct Line {
 }
 
 // The number from the table and the count that goes with it.
+#[repr(C)]
 pub struct Answer {
     pub number: u32,
     pub count: u32,

@@ -16,6 +16,7 @@ use counts::View;
 use sectors::Sector;
 
 // Where a file's content lies, and how long it is.
+#[repr(C)]
 pub struct Run {
     pub start: Sector,
     pub sectors: u32,
