@@ -2,9 +2,9 @@
 use mathlib.Core.Path.{_≡_, refl}
 use mathlib.Core.Bool.{Bool, true, false, cond, _&&_, _||_}
 use mathlib.Core.List.{List, [], _∷_, _++_}
-use Prim.Native.Nat.{ℕ, zero, suc, _+_, _*_}
-use lib.ListN.{length, take, drop, getD, set, replicate}
-use lib.Dec.{leb, ltb, eqb}
+use Prim.Native.Nat.{ℕ, _*_}
+use lib.ListN.{take, drop, replicate}
+use lib.Dec.{eqb}
 use Rattle.sums.specs.Sums.{inRun}
 use Rattle.words.specs.Lists.{every, pairwise, firstAt, eqList, part, over, splice, setPart, pad}
 use Rattle.words.specs.Bytes.{wordAt, words, wordBytes}
@@ -12,7 +12,6 @@ use Rattle.sectors.specs.Sectors.{sec, setSec, applySteps, copySteps}
 use Rattle.counts.specs.declared.Geo.{Geo}
 use Rattle.counts.specs.Geometry.{gN, gF, geoOk, countOf, geoOf, tableFrom, tableOf}
 use Rattle.counts.specs.Stamps.{stampOf, alive, showing, stampOk, deadBelow, tableOk, tableIn, asIs, sameStamp, standing, becomesOld}
-use Rattle.entries.specs.declared.Run.{Run}
 use Rattle.entries.specs.Entries.{versionOf, versionBytes, newOf, oldOf, nameBytes, entryOf, entryBytes, shownBytes, shown, goodName, nameOf, nameOk, sectorsFor, runOk, versionOk, entryOk, changed}
 use Rattle.directory.specs.Directory.{sectorEntries, entriesFrom, entriesOf, spotsFrom, spotOf, setEntry, gone, apart, named}
 use Rattle.apages.specs.Bits.{bitAt, putDigit, putBit, setRun, bitsN, bitsOf, clearIn, clearBits}
@@ -21,7 +20,7 @@ use Rattle.apages.specs.Index.{indexOf, indexBytes, indexIn, pairOk, indexOk, s
 use Rattle.card.specs.declared.Line.{Line}
 use Rattle.card.specs.declared.Answer.{Answer}
 use Rattle.card.specs.declared.Report.{Report}
-use Rattle.card.specs.Plan.{guard, need, ended, refused, done, Changed, Got, Listed}
+use Rattle.card.specs.Plan.{guard, need, ended, refused, done}
 use Rattle.card.specs.Files.{consFile, filesOf, cover, contentOf, runOf, runAt, getPlan, getEnd, listPlan, listEnd}
 use Rattle.card.specs.Sound.{viewOk, soundIn, shapeOk, sound}
 use Rattle.card.specs.Make.{blockBytes, freshIndex, freshCard, makePlan, make}
@@ -31,7 +30,7 @@ use Rattle.session.specs.declared.Session.the-variants.{Closed, Open}
 use Rattle.session.specs.Views.{ownStamp, presentView, presentTable, cutTable, presentPage, cutPage, presentFiles, sessionFiles}
 use Rattle.session.specs.Fits.{sizesOk, headOk, wordOk, stampAtMost, entryAtMost, fitsIn, fits}
 use Rattle.store.specs.Steps.{setCount, setWord, tableSector, mountSteps, syncSteps, atTop, downSteps, unmountStepsBy, unmountSteps, syncWork, downWork, unmountWorkBy, unmountWork}
-use Rattle.store.specs.Mount.{Ended, mountPlan, openedFrom, mountDone, mount}
+use Rattle.store.specs.Mount.{mountPlan, openedFrom, mountDone, mount}
 use Rattle.store.specs.Edit.{orElse, putPlace, placeIn, runIn, putPlan, putContent, editWork, putRun, putWork, put, removePlan, removeWork, remove}
 use Rattle.store.specs.Look.{get, list, free}
 use Rattle.store.specs.Sync.{bothPlan, land, grown, syncDone, sync, unmountDone, unmount}

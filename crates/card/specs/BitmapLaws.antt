@@ -10,14 +10,14 @@ use native.Mathlib.Omega.{arith}
 use borrow.Author.Tests.{eqb-true, eq-eqb, lt-ltb, le-ltb, lt-leb, le-leb}
 use lib.Dec.{leb, ltb, eqb}
 use lib.ListN.{length, take, drop, getD, length-drop}
-use lib.Seq.{length-take-le, getD-take, getD-drop, drop-set-lt}
+use lib.Seq.{length-take-le, getD-drop, drop-set-lt}
 use Rattle.words.specs.Lists.{every}
 use Rattle.words.specs.BoolLaws.{both, join, or-intro}
 use Rattle.words.specs.EveryLaws.{every-at}
 use Rattle.counts.specs.declared.Geo.{Geo}
 use Rattle.counts.specs.Geometry.{gF}
 use Rattle.apages.specs.Bits.{digit, bitAt, putBit, setRun, bitsOf}
-use Rattle.apages.specs.BitLaws.{bits-at, bits-length}
+use Rattle.apages.specs.BitLaws.{bits-at, bits-length, digit-full, bit-take}
 use Rattle.apages.specs.Runs.{outside, wanted, bitsOk, isFull, bytesToS, pageOk}
 
 -- ---- what the rule wants of a sector's bit
@@ -66,21 +66,6 @@ bits-wanted g count (b ∷ bs) i (suc j) h l =
 
 -- ---- a page
 
-pub bit-take : (m : ℕ) (p : List ℕ) (n : ℕ) → n < 8 * m → bitAt (take m p) n ≡ bitAt p n
-unfolding bitAt
-bit-take m p n h = ap (λ (x : ℕ). digit x (n % 8)) (getD-take m p (n / 8) 0 (omega arith))
-
-digit-full : (b : ℕ) → b < 8 → digit 255 b ≡ 1
-digit-full zero h = refl
-digit-full (suc zero) h = refl
-digit-full (suc (suc zero)) h = refl
-digit-full (suc (suc (suc zero))) h = refl
-digit-full (suc (suc (suc (suc zero)))) h = refl
-digit-full (suc (suc (suc (suc (suc zero))))) h = refl
-digit-full (suc (suc (suc (suc (suc (suc zero)))))) h = refl
-digit-full (suc (suc (suc (suc (suc (suc (suc zero))))))) h = refl
-digit-full (suc (suc (suc (suc (suc (suc (suc (suc b)))))))) h = absurd (omega arith)
-
 -- a byte that is full has its eight bits set
 pub full-bit : (p : List ℕ) (m n : ℕ) → every isFull (drop m p) ≡ true → 8 * m ≤ n → n < 8 * length p → bitAt p n ≡ 1
 unfolding bitAt
@@ -90,14 +75,14 @@ full-bit p m n h lo hi =
     let x : getD p (n / 8) 0 ≡ 255 = sym (getD-drop m p (n / 8 - m) 0 ∙ ap (λ (i : ℕ). getD p i 0) e) ∙ eqb-true _ 255 f in
     ap (λ (x : ℕ). digit x (n % 8)) x ∙ digit-full (n % 8) (omega arith)
 
+pub bytes-past : (g : Geo) → g .s ≤ 8 * bytesToS g
+unfolding bytesToS
+bytes-past g = omega arith
+
 module _ (g : Geo) (count : ℕ → ℕ) (p : List ℕ) (top : g .s ≤ 8 * length p) where
   few : bytesToS g ≤ length p
   unfolding bytesToS
   few = omega (arith, top)
-
-  past : g .s ≤ 8 * bytesToS g
-  unfolding bytesToS
-  past = omega arith
 
   part-bits : length (bitsOf (take (bytesToS g) p)) ≡ 8 * bytesToS g
   part-bits = bits-length (take (bytesToS g) p) ∙ ap (λ (m : ℕ). 8 * m) (length-take-le (bytesToS g) p few)
@@ -112,7 +97,7 @@ module _ (g : Geo) (count : ℕ → ℕ) (p : List ℕ) (top : g .s ≤ 8 * leng
           sym (bits-at (take (bytesToS g) p) n ∙ bit-take (bytesToS g) p n a)
           ∙ (rw zero-add at (bits-wanted g count (bitsOf (take (bytesToS g) p)) 0 n (w .0) (omega (arith, part-bits))))
       go (no a) w =
-          full-bit p (bytesToS g) n (w .1) (omega arith) l ∙ sym (wanted-out g count n (λ q. omega (arith, q .1, past)))
+          full-bit p (bytesToS g) n (w .1) (omega arith) l ∙ sym (wanted-out g count n (λ q. omega (arith, q .1, bytes-past g)))
 
   -- a page passes by its bits, and by its bytes past S
   pub page-ok : ((n : ℕ) → n < 8 * bytesToS g → bitAt p n ≡ wanted g count n) → every isFull (drop (bytesToS g) p) ≡ true → pageOk g count p ≡ true

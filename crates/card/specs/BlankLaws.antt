@@ -1,7 +1,7 @@
 -- Zeros, read as table words and as entries: they pass, and show no file. Assumes nothing.
 use mathlib.Core.Path.{_≡_, refl, sym, ap, _∙_}
-use mathlib.Core.Bool.{Bool, true, _||_}
-use mathlib.Core.List.{List, [], _∷_, _++_}
+use mathlib.Core.Bool.{true, _||_}
+use mathlib.Core.List.{List, [], _∷_}
 use mathlib.Core.Logic.{inl}
 use Prim.Native.Nat.{ℕ, zero, suc, _+_, _-_, _*_, _≤_, _<_}
 use native.Mathlib.Omega.{arith}
@@ -9,7 +9,7 @@ use borrow.Author.Tests.{eqb-true, lt-ltb, le-leb}
 use lib.Dec.{eqb}
 use lib.ListN.{take, drop, getD, replicate, length-replicate, replicate-append-replicate}
 use lib.Seq.{take-at, drop-at}
-use Rattle.words.specs.Lists.{every, pairwise, isZero, part}
+use Rattle.words.specs.Lists.{every, isZero, part}
 use Rattle.words.specs.Bytes.{wordAt, words}
 use Rattle.words.specs.BoolLaws.{both, join, or-intro}
 use Rattle.sectors.specs.Sectors.{sec}
@@ -43,11 +43,6 @@ unfolding sec part
 zero-sector S i h =
     ap (λ (x : List ℕ). take 512 x) (drop-same (512 * i) (512 * S) 0 (omega arith)) ∙ take-same 512 (512 * S - 512 * i) 0 (omega arith)
 
-pub every-append : (f : ℕ → Bool) (a b : List ℕ) → every f a ≡ true → every f b ≡ true → every f (a ++ b) ≡ true
-unfolding every
-every-append f [] b h q = q
-every-append f (x ∷ xs) b h q = let (u, v) = both (f x) (every f xs) h in join _ _ u (every-append f xs b v q)
-
 pub zero-max : (l : List ℕ) → every isZero l ≡ true → every wordMax l ≡ true
 unfolding every
 zero-max [] h = refl
@@ -59,16 +54,6 @@ zero-max (x ∷ xs) h =
 pub zero-words : every isZero (words blank) ≡ true
 unfolding words every
 zero-words = refl
-
-pub every-replicate : {A : Type 0} (f : A → Bool) (a : A) (n : ℕ) → f a ≡ true → every f (replicate n a) ≡ true
-unfolding every
-every-replicate f a zero h = refl
-every-replicate f a (suc n) h = join _ _ h (every-replicate f a n h)
-
-pub pairwise-replicate : {A : Type 0} (f : A → A → Bool) (a : A) (n : ℕ) → f a a ≡ true → pairwise f (replicate n a) ≡ true
-unfolding pairwise
-pairwise-replicate f a zero h = refl
-pairwise-replicate f a (suc n) h = join _ _ (every-replicate (f a) a n h) (pairwise-replicate f a n h)
 
 -- ---- a blank entry
 

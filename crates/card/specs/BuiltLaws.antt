@@ -18,8 +18,8 @@ use Rattle.words.specs.WordLaws.{four-words}
 use Rattle.counts.specs.declared.Geo.{Geo}
 use Rattle.counts.specs.Geometry.{gF}
 use Rattle.counts.specs.TableLaws.{InLimits}
-use Rattle.apages.specs.Bits.{digit, bitAt, putDigit, putBit, setRun}
-use Rattle.apages.specs.BitLaws.{digit-zero, putDigit-lt, pages-ext}
+use Rattle.apages.specs.Bits.{bitAt, putDigit, putBit, setRun}
+use Rattle.apages.specs.BitLaws.{digit-zero, putDigit-lt, pages-ext, digit-full}
 use Rattle.apages.specs.RunLaws.{setRun-length, run-in, run-out}
 use Rattle.apages.specs.Runs.{outside, freshPage}
 use Rattle.card.specs.Make.{blockBytes}
@@ -74,23 +74,12 @@ clear-bit : (m n : ℕ) → bitAt (zeros m) n ≡ 0
 unfolding bitAt
 clear-bit m n = rw (zeros-at m (n / 8)) (digit-zero (n % 8))
 
-pub full-digit : (b : ℕ) → b < 8 → digit 255 b ≡ 1
-full-digit zero h = refl
-full-digit (suc zero) h = refl
-full-digit (suc (suc zero)) h = refl
-full-digit (suc (suc (suc zero))) h = refl
-full-digit (suc (suc (suc (suc zero)))) h = refl
-full-digit (suc (suc (suc (suc (suc zero))))) h = refl
-full-digit (suc (suc (suc (suc (suc (suc zero)))))) h = refl
-full-digit (suc (suc (suc (suc (suc (suc (suc zero))))))) h = refl
-full-digit (suc (suc (suc (suc (suc (suc (suc (suc b)))))))) h = absurd (omega arith)
-
 full-at : (m j : ℕ) → j < m → getD (full m) j 0 ≡ 255
 full-at m j h = getD-replicate m j (let x : ℕ = 255 in x) 0 h
 
 full-bit : (m n : ℕ) → n < 8 * m → bitAt (full m) n ≡ 1
 unfolding bitAt
-full-bit m n h = rw (full-at m (n / 8) (omega arith)) (full-digit (n % 8) (omega arith))
+full-bit m n h = rw (full-at m (n / 8) (omega arith)) (digit-full (n % 8) (omega arith))
 
 -- ---- "the bits below F, from S up"
 
@@ -106,9 +95,9 @@ side g n = go (decLt n (gF g)) (decLt n (g .s))
     go (no a) (yes b) = inr (inr (omega arith, b, rw (le-ltb n (gF g) (omega arith), lt-leb (g .s) n b)))
     go (no a) (no b) = inr (inl (omega arith, omega arith, rw (le-ltb n (gF g) (omega arith), le-leb (g .s) n (omega arith))))
 
-pub fresh-length : (g : Geo) → length (freshPage g) ≡ 512
+pub page-length : (g : Geo) → length (freshPage g) ≡ 512
 unfolding freshPage
-fresh-length g = setRun-length (replicate 512 255) (gF g) (g .s - gF g) 0
+page-length g = setRun-length (replicate 512 255) (gF g) (g .s - gF g) 0
 
 pub fresh-bytes : (g : Geo) (j : ℕ) → getD (freshPage g) j 0 < 256
 unfolding freshPage
@@ -173,7 +162,7 @@ module _ (g : Geo) (lim : InLimits g) where
 
       page : built ≡ freshPage g
       page =
-          pages-ext built (freshPage g) (setRun-length low (g .s) (4096 - g .s) 1 ∙ low-length ∙ sym (fresh-length g)) (setRun-bytes low (g .s) (4096 - g .s) 1 (lit< tt) (setRun-bytes z 0 (gF g) 1 (lit< tt) (copies-at 512 0 (lit< tt)))) (fresh-bytes g)
+          pages-ext built (freshPage g) (setRun-length low (g .s) (4096 - g .s) 1 ∙ low-length ∙ sym (page-length g)) (setRun-bytes low (g .s) (4096 - g .s) 1 (lit< tt) (setRun-bytes z 0 (gF g) 1 (lit< tt) (copies-at 512 0 (lit< tt)))) (fresh-bytes g)
           (λ n h. let k : n < 4096 = omega (arith, setRun-length low (g .s) (4096 - g .s) 1, low-length) in bit n k ∙ sym (fresh-bit n k))
 
 -- ---- an image of zeros, byte by byte

@@ -1,13 +1,12 @@
 -- The files that a view shows, the sectors they hold, and their contents. Assumes nothing.
-use mathlib.Core.Bool.{Bool}
 use mathlib.Core.List.{List, [], _∷_, _++_}
-use Prim.Native.Nat.{ℕ, zero, suc, _+_, _*_}
+use Prim.Native.Nat.{ℕ, _+_, _*_}
 use lib.ListN.{length, take, drop, getD, replicate}
 use lib.Dec.{leb, ltb}
 use Rattle.sums.specs.Sums.{bit, inRun}
 use Rattle.words.specs.Lists.{firstAt, splice}
 use Rattle.words.specs.Bytes.{wordAt}
-use Rattle.sectors.specs.Sectors.{Cells, sec}
+use Rattle.sectors.specs.Sectors.{sec}
 use Rattle.counts.specs.declared.Geo.{Geo}
 use Rattle.entries.specs.declared.Run.{Run}
 use Rattle.entries.specs.declared.Version.{Version}

@@ -11,7 +11,8 @@ use lib.ListN.{drop, getD, replicate}
 use Rattle.words.specs.Lists.{every, pairwise, isZero}
 use Rattle.words.specs.Bytes.{wordAt}
 use Rattle.words.specs.BoolLaws.{join, or-intro}
-use Rattle.words.specs.EveryMore.{every-drop, zero-at}
+use Rattle.words.specs.EveryMore.{every-drop, zero-at, every-replicate, pairwise-replicate, zeros-zero}
+use Rattle.words.specs.FourWords.{four-first, four-second, four-third, four-fourth, four-rest}
 use Rattle.sectors.specs.Sectors.{Cells, sec}
 use Rattle.counts.specs.declared.Geo.{Geo}
 use Rattle.counts.specs.Geometry.{gN, geoOk, geoOf, countOf, tableOf}
@@ -21,16 +22,12 @@ use Rattle.directory.specs.Directory.{entriesOf, apart}
 use Rattle.apages.specs.Runs.{freshPage}
 use Rattle.apages.specs.Index.{indexBytes, indexIn, pairOk, indexOk, shownPage, pageIn}
 use Rattle.counts.specs.GeoLaws.{Limits, limits}
-use Rattle.card.specs.FourWords.{four-first, four-second, four-third, four-fourth, four-rest}
-use Rattle.card.specs.BlankLaws.{zero-max, every-replicate, pairwise-replicate, e₀, noStamp, alive-blank, stamp-blank, dead-blank, entry-blank, apart-blank, no-files}
+use Rattle.card.specs.BlankLaws.{zero-max, e₀, noStamp, alive-blank, stamp-blank, dead-blank, entry-blank, apart-blank, no-files}
 use Rattle.card.specs.FreshSectors.{page-good, fresh-length, at-zero, at-index, at-page, zero-table, blank-dir}
 use Rattle.card.specs.Files.{filesOf}
 use Rattle.card.specs.Sound.{viewOk, soundIn, shapeOk, sound}
 use Rattle.card.specs.Make.{blockBytes, freshIndex, freshCard}
 use Rattle.card.specs.Reading.{filesIn, filesShown}
-
-zeros : (n : ℕ) → every isZero (replicate n 0) ≡ true
-zeros n = every-replicate isZero 0 n refl
 
 module _ (g : Geo) (ok : geoOk g ≡ true) where
   L : Limits g
@@ -62,7 +59,7 @@ module _ (g : Geo) (ok : geoOk g ≡ true) where
 
   block-rest : every isZero (drop 16 (k 0)) ≡ true
   unfolding blockBytes
-  block-rest = rw (at-zero g ok, four-rest 0 (g .s) (g .t) (g .d) (replicate 496 0)) (zeros 496)
+  block-rest = rw (at-zero g ok, four-rest 0 (g .s) (g .t) (g .d) (replicate 496 0)) (zeros-zero 496)
 
   table-good : tableOk g 0 (tableOf g k) ≡ true
   unfolding tableOk
@@ -88,7 +85,7 @@ module _ (g : Geo) (ok : geoOk g ≡ true) where
 
   index-rest : every isZero (drop 16 (indexIn g k)) ≡ true
   unfolding indexIn indexBytes freshIndex
-  index-rest = rw (at-index g ok, four-rest 0 0 (g .t + 2) (g .t + 3) (replicate 496 0)) (zeros 496)
+  index-rest = rw (at-index g ok, four-rest 0 0 (g .t + 2) (g .t + 3) (replicate 496 0)) (zeros-zero 496)
 
   pair-good : pairOk g (g .t + 2) (g .t + 3) ≡ true
   unfolding pairOk

@@ -1,79 +1,39 @@
 -- "A fresh card", sector by sector: its page passes, its table is 0, its directory blank. Assumes nothing.
-use mathlib.Core.Path.{_≡_, refl, sym, _∙_}
+use mathlib.Core.Path.{_≡_, refl, _∙_}
 use mathlib.Core.Bool.{true}
 use mathlib.Core.List.{List, []}
 use mathlib.Core.Logic.{_≢_}
-use Prim.Native.Nat.{ℕ, zero, suc, _+_, _-_, _*_, _≤_, _<_}
+use Prim.Native.Nat.{ℕ, zero, suc, _+_, _*_, _≤_, _<_}
 use native.Mathlib.Omega.{arith}
-use lib.Dec.{lit<}
-use lib.ListN.{length, drop, replicate, length-replicate}
+use lib.ListN.{length, replicate, length-replicate}
 use Rattle.words.specs.Lists.{every, isZero}
 use Rattle.words.specs.Bytes.{words}
+use Rattle.words.specs.FourWords.{four-length}
+use Rattle.words.specs.EveryMore.{every-append}
 use Rattle.sectors.specs.Sectors.{Cells, sec, setSec}
 use Rattle.sectors.specs.SectorLaws.{setSec-length, sec-same, sec-other}
 use Rattle.counts.specs.declared.Geo.{Geo}
-use Rattle.counts.specs.Geometry.{gF, geoOk, tableFrom, tableOf}
+use Rattle.counts.specs.Geometry.{geoOk, tableFrom, tableOf}
 use Rattle.directory.specs.Directory.{entriesFrom, entriesOf}
-use Rattle.apages.specs.Bits.{bitAt}
-use Rattle.apages.specs.RunLaws.{setRun-length, run-in, run-out}
-use Rattle.apages.specs.Runs.{isFull, bytesToS, pageOk, freshPage, wanted}
+use Rattle.apages.specs.Runs.{pageOk, freshPage, wanted}
 use Rattle.apages.specs.Index.{indexBytes}
 use Rattle.counts.specs.GeoLaws.{Limits, limits}
-use Rattle.card.specs.FourWords.{four-length}
-use Rattle.card.specs.BitmapLaws.{InData, in-data, wanted-in, wanted-out, full-bit, page-ok, run-rest}
-use Rattle.card.specs.BlankLaws.{blank, zero-sector, drop-same, every-append, zero-words, every-replicate, e₀, four-blank}
+use Rattle.card.specs.BlankLaws.{blank, zero-sector, zero-words, e₀, four-blank}
 use Rattle.card.specs.Files.{cover}
 use Rattle.card.specs.Make.{blockBytes, freshIndex, freshCard}
-
-full : List ℕ
-full = replicate 512 255
-
-full-length : length full ≡ 512
-unfolding full
-full-length = length-replicate {A = ℕ} 512 255
-
-full-rest : (m : ℕ) → m ≤ 512 → every isFull (drop m full) ≡ true
-unfolding full
-full-rest m h = rw (drop-same m 512 255 h) (every-replicate isFull 255 (512 - m) refl)
+use Rattle.card.specs.BuiltLaws.{page-length, fresh-bytes, fresh-bit}
+use Rattle.card.specs.PageIs.{bits-page}
 
 module _ (g : Geo) (ok : geoOk g ≡ true) where
   L : Limits g
   L = limits g ok
 
-  -- ---- the page
-
-  pub page-length : length (freshPage g) ≡ 512
-  unfolding freshPage full
-  page-length = setRun-length full (gF g) (g .s - gF g) 0 ∙ full-length
-
-  below : gF g + (g .s - gF g) ≡ g .s
-  unfolding gF
-  below = omega (arith, L .sLow)
-
-  few : bytesToS g ≤ 512
-  unfolding bytesToS
-  few = omega (arith, L .sHigh)
-
-  past : g .s ≤ 8 * bytesToS g
-  unfolding bytesToS
-  past = omega arith
-
   pub page-good : pageOk g (cover []) (freshPage g) ≡ true
-  unfolding freshPage full
   page-good =
-      page-ok g (cover []) (freshPage g) (omega (arith, page-length, L .sHigh)) (λ n l. go n l (in-data g n))
-      (rw (run-rest full (bytesToS g) (gF g) (g .s - gF g) 0 (omega (arith, below, past))) (full-rest (bytesToS g) few))
-    where
-      inside : gF g + (g .s - gF g) ≤ 8 * length full
-      inside = omega (arith, below, full-length, L .sHigh)
+      bits-page g (cover []) (freshPage g) (L .sHigh) (page-length g) (fresh-bytes g)
+      (λ n h. fresh-bit g (record { s = L .sHigh; t = L .tHigh; d = L .dHigh }) n h ∙ (unfold wanted cover in refl))
 
-      go : (n : ℕ) → n < 8 * bytesToS g → Dec (InData g n) → bitAt (freshPage g) n ≡ wanted g (cover []) n
-      go n l (yes q) =
-          run-in full (gF g) 0 (lit< tt) (g .s - gF g) n inside (q .0) (omega (arith, q .1, below))
-          ∙ sym (wanted-in g (cover []) n q ∙ (unfold cover in refl))
-      go n l (no o) =
-          run-out full (gF g) 0 (lit< tt) (g .s - gF g) n inside (λ a b. o (a, omega (arith, below)))
-          ∙ full-bit full 0 n (full-rest 0 (omega arith)) (omega arith) (omega (arith, full-length, few)) ∙ sym (wanted-out g (cover []) n o)
+  -- ---- the page
 
   -- ---- the sectors
 
@@ -118,10 +78,10 @@ module _ (g : Geo) (ok : geoOk g ≡ true) where
 
   off3 : (i : ℕ) → i ≢ g .t + 3 → k i ≡ sec m3 i
   unfolding freshCard
-  off3 i o = sec-other m3 (g .t + 3) (freshPage g) page-length i o
+  off3 i o = sec-other m3 (g .t + 3) (freshPage g) (page-length g) i o
 
   off2 : (i : ℕ) → i ≢ g .t + 3 → i ≢ g .t + 2 → k i ≡ sec m2 i
-  off2 i o q = off3 i o ∙ sec-other m2 (g .t + 2) (freshPage g) page-length i q
+  off2 i o q = off3 i o ∙ sec-other m2 (g .t + 2) (freshPage g) (page-length g) i q
 
   off1 : (i : ℕ) → i ≢ g .t + 3 → i ≢ g .t + 2 → i ≢ g .t + 1 → k i ≡ sec m1 i
   off1 i o q r = off2 i o q ∙ sec-other m1 (g .t + 1) (indexBytes (freshIndex g)) index-wide i r
@@ -134,7 +94,7 @@ module _ (g : Geo) (ok : geoOk g ≡ true) where
       off2 (g .t + 1) (omega arith) (omega arith) ∙ sec-same m1 (g .t + 1) (indexBytes (freshIndex g)) index-wide (omega (arith, l1, L .sLow))
 
   pub at-page : k (g .t + 2) ≡ freshPage g
-  at-page = off3 (g .t + 2) (omega arith) ∙ sec-same m2 (g .t + 2) (freshPage g) page-length (omega (arith, l2, L .sLow))
+  at-page = off3 (g .t + 2) (omega arith) ∙ sec-same m2 (g .t + 2) (freshPage g) (page-length g) (omega (arith, l2, L .sLow))
 
   at-rest : (i : ℕ) → i < g .s → i ≢ 0 → i ≢ g .t + 1 → i ≢ g .t + 2 → i ≢ g .t + 3 → k i ≡ blank
   at-rest i h z a b c = off1 i c b a ∙ sec-other m0 0 (blockBytes 0 g) block-length i z ∙ zero-sector (g .s) i h

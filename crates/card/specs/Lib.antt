@@ -7,7 +7,6 @@ pub mod Reading
 pub mod SoundLaws
 pub mod FileLaws
 pub mod BitmapLaws
-pub mod FourWords
 pub mod BlankLaws
 pub mod FreshSectors
 pub mod FreshLaws

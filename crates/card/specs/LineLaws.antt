@@ -106,16 +106,6 @@ module _ (tab : List ℕ) (es : List (List ℕ)) (j : ℕ) (h : length es ≤ j)
   pub line-end : (x : Line) (i : ℕ) → x ≡ getD (filesOf tab (drop j es)) i noLine → noLine ≡ x
   line-end x i inv = sym (rw files-end at inv)
 
--- the files are no more than the entries
-pub files-le : (tab : List ℕ) (es : List (List ℕ)) → length (filesOf tab es) ≤ length es
-unfolding filesOf consFile
-files-le tab [] = omega arith
-files-le tab (p ∷ es) = go (shown tab p) (files-le tab es)
-  where
-    go : (v : Version) → length (filesOf tab es) ≤ length es → length (consFile p v (filesOf tab es)) ≤ suc (length es)
-    go Absent ih = omega arith
-    go (Present r) ih = omega arith
-
 -- ---- what get asks
 
 -- the part of an image that holds a run's content

@@ -25,8 +25,9 @@ use Rattle.apages.specs.Runs.{outside, wanted, pageOk, freshPage}
 use Rattle.card.specs.Files.{filesOf, cover, runOf}
 use Rattle.card.specs.Marks.{clearRun}
 use Rattle.card.specs.CoverLaws.{RunsOk, run-data, run-room, cover-next, cover-none}
-use Rattle.card.specs.BuiltLaws.{setRun-bytes, side, fresh-length, fresh-bytes, fresh-bit}
-use Rattle.card.specs.PageIs.{page-bits, page-is}
+use Rattle.card.specs.BuiltLaws.{setRun-bytes, side, page-length, fresh-bytes, fresh-bit}
+use Rattle.card.specs.PageIs.{page-is}
+use Rattle.card.specs.BitmapLaws.{page-bits}
 
 -- ---- whether a run is clear
 
@@ -92,7 +93,7 @@ pub record Marked (g : Geo) (tab : List ℕ) (es : List (List ℕ)) (m : List �
 
 pub marked-none : (g : Geo) (tab : List ℕ) (es : List (List ℕ)) {m : List ℕ} → InLimits g → m ≡ freshPage g → Marked g tab es m 0
 marked-none g tab es {m} lim e = record {
-  size = ap length e ∙ fresh-length g;
+  size = ap length e ∙ page-length g;
   bytes = λ i. rw e (fresh-bytes g i);
   out = λ n h o. rw e (fresh-bit g lim n h ∙ ap (λ (b : Bool). cond b 1 0) o);
   sum = λ n h o. let z : bitAt m n ≡ 0 = rw e (fresh-bit g lim n h ∙ ap (λ (b : Bool). cond b 1 0) o) in omega arith;
@@ -145,7 +146,7 @@ module _ (g : Geo) (tab : List ℕ) (es : List (List ℕ)) (j : ℕ) (m : List �
       twice i u v t q =
           let o : outside g i ≡ false = in-data g r ok i u v in
           let h : i < 4096 = omega (arith, run-room g r ok) in
-          let w : bitAt p i ≡ cover (filesOf tab es) i = page-bits g (cover (filesOf tab es)) p lim s q i h ∙ wanted-in g (cover (filesOf tab es)) i o in
+          let w : bitAt p i ≡ cover (filesOf tab es) i = page-bits g (cover (filesOf tab es)) p (omega (arith, s)) q i (omega (arith, s)) ∙ wanted-in g (cover (filesOf tab es)) i o in
           let z : inRun (r .start .0) (r .sectors) i ≡ 1 = ⊎-elim (λ x. absurd (omega arith)) (⊎-elim (λ x. x .2) (λ x. absurd (omega arith))) (place (r .start .0) (r .sectors) i) in
           absurd (omega (arith, bit-lt p i, k .sum i h o, share i))
 

@@ -1,11 +1,11 @@
--- Plans: what one that goes through says of its tests, and that a refusal's number is not 0. Assumes nothing.
+-- Plans: what one that goes through says of its tests, that a refusal's number is not 0, and what holds of the end. Assumes nothing.
 use mathlib.Core.Path.{_≡_, refl}
 use mathlib.Core.Bool.{Bool, true, false}
 use Prim.Native.Nat.{ℕ, suc}
 use Rattle.words.specs.declared.Found.{Found}
 use Rattle.words.specs.declared.Found.the-variants.{At, Nowhere}
 use Rattle.words.specs.BoolLaws.{never}
-use Rattle.card.specs.Plan.{Plan, refuse, doIt, guard, need}
+use Rattle.card.specs.Plan.{Plan, refuse, doIt, guard, need, ended}
 
 pub guard-inv : (k : ℕ) (b : Bool) (p : Plan) {j a : ℕ} → guard k b p ≡ doIt j a → (b ≡ true) × (p ≡ doIt j a)
 unfolding guard
@@ -31,3 +31,10 @@ pub need-num : (k : ℕ) (o : Found) {f : ℕ → Plan} → ((i : ℕ) → Num (
 unfolding need
 need-num k Nowhere h = no! k
 need-num k (At i) h = h i
+
+-- what holds of every refusal and of what is done holds of the end
+pub passing : {A : Type 0} (P : A → Type 0) (f : ℕ → A) (h : ℕ → ℕ → A) {p : Plan} → Num p → ((k : ℕ) → P (f (suc k))) → ((j a : ℕ) → p ≡ doIt j a → P (h j a))
+    → P (ended p f h)
+unfolding ended
+passing P f h (no! k) x y = x k
+passing P f h (go! j a) x y = y j a refl

@@ -18,7 +18,7 @@ use Rattle.apages.specs.BitLaws.{bit-lt}
 use Rattle.apages.specs.RunLaws.{setRun-length, set-run, clear-run}
 use Rattle.apages.specs.Runs.{wanted, bitsOk, isFull, bytesToS, pageOk}
 use Rattle.card.specs.declared.Line.{Line}
-use Rattle.card.specs.BitmapLaws.{InData, in-data, wanted-in, wanted-out, page-bits, page-ok, run-rest}
+use Rattle.card.specs.BitmapLaws.{InData, in-data, wanted-in, wanted-out, page-bits, page-ok, run-rest, bytes-past}
 use Rattle.card.specs.FileLaws.{in-run, out-run}
 use Rattle.card.specs.Files.{consFile, cover, runOf}
 
@@ -77,10 +77,6 @@ module _ (g : Geo) (ok : geoOk g ≡ true) (count count′ : ℕ → ℕ) (p : L
   unfolding bytesToS
   few = omega (arith, L .sHigh)
 
-  past : g .s ≤ 8 * bytesToS g
-  unfolding bytesToS
-  past = omega arith
-
   rest : every isFull (drop (bytesToS g) p) ≡ true
   unfolding pageOk
   rest = both (bitsOk g count 0 (bitsOf (take (bytesToS g) p))) _ was .1
@@ -89,4 +85,4 @@ module _ (g : Geo) (ok : geoOk g ≡ true) (count count′ : ℕ → ℕ) (p : L
   unfolding one
   rule-kept =
       page-ok g count′ (setRun one b m 0) (omega (arith, setRun-length one b m 0, one-length, L .sHigh)) (λ n l. now n (omega (arith, few)))
-      (rw (run-rest one (bytesToS g) b m 0 (omega (arith, roomy, past)), run-rest p (bytesToS g) a k 1 (omega (arith, fits, past))) rest)
+      (rw (run-rest one (bytesToS g) b m 0 (omega (arith, roomy, bytes-past g)), run-rest p (bytesToS g) a k 1 (omega (arith, fits, bytes-past g))) rest)

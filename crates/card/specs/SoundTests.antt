@@ -1,24 +1,23 @@
 -- A card's shape and soundness, as the tests are made. Assumes nothing.
 use mathlib.Core.Path.{_≡_, refl, sym, ap, _∙_}
 use mathlib.Core.Bool.{Bool, true, false, not, _&&_}
-use mathlib.Core.List.{List, [], _∷_}
-use Prim.Native.Nat.{ℕ, zero, suc, _+_, _*_, _≤_, _<_}
-use native.Mathlib.Nat.{zero-add, suc-add}
+use mathlib.Core.List.{List}
+use Prim.Native.Nat.{ℕ, _*_, _≤_, _<_}
 use native.Mathlib.Omega.{arith}
 use borrow.Author.Tests.{ne-eqb, eqb-true, ltb-true, not-true, not-false}
 use lib.Dec.{leb, ltb, eqb}
 use lib.ListN.{length, take, drop}
-use lib.Seq.{set-out, take-all}
 use Rattle.words.specs.Lists.{every, pairwise, isZero, part}
 use Rattle.words.specs.Bytes.{wordAt}
 use Rattle.words.specs.WordLaws.{word-part}
 use Rattle.words.specs.BoolLaws.{both}
+use Rattle.words.specs.PartLaws.{drop-take}
 use Rattle.sectors.specs.Sectors.{sec}
 use Rattle.counts.specs.declared.Geo.{Geo}
 use Rattle.counts.specs.declared.View.{View}
 use Rattle.counts.specs.Geometry.{gN, gF, geoOk, geoOf, countOf, tableOf}
 use Rattle.counts.specs.Stamps.{tableIn, asIs, tableOk}
-use Rattle.counts.specs.TableLaws.{InLimits, LaidOut, ok-laid, table-le}
+use Rattle.counts.specs.TableLaws.{InLimits, LaidOut, ok-laid, as-is}
 use Rattle.directory.specs.Directory.{entriesOf, apart}
 use Rattle.apages.specs.Index.{indexIn, pairOk}
 use Rattle.card.specs.CoverLaws.{RunsOk}
@@ -73,11 +72,6 @@ module _ (img : List ℕ) where
 
 -- ---- soundness
 
-drop-take : (a n : ℕ) (s : List ℕ) → drop a (take (a + n) s) ≡ take n (drop a s)
-drop-take zero n s = rw zero-add
-drop-take (suc a) n [] = rw suc-add (sym (take-all n [] (omega arith)))
-drop-take (suc a) n (x ∷ s) = rw suc-add (drop-take a n s)
-
 pub head-word : (img : List ℕ) → 512 ≤ length img → wordAt (sec img 0) 0 ≡ wordAt img 0
 unfolding sec part
 head-word img l = word-part img 512 0 0 (omega arith) (omega arith)
@@ -89,8 +83,7 @@ head-rest img = drop-take 16 496 img
 -- the view that takes the table as it is
 module _ (g : Geo) (img : List ℕ) (laid : LaidOut g img) {v : View} (e : v ≡ asIs g) where
   pub as-table : tableIn g v (sec img) ≡ tableOf g (sec img)
-  unfolding tableIn asIs gN
-  as-table = rw e (set-out (tableOf g (sec img)) (128 * g .t) 0 (table-le g img laid (128 * g .t) (omega arith)))
+  as-table = rw e (as-is g img laid)
 
   pub sound-here : {C : ℕ} {a b c d : Bool} → C ≡ wordAt img 0 → a ≡ every isZero (take 496 (drop 16 img)) → b ≡ tableOk g C (tableOf g (sec img))
       → c ≡ viewOk g C (tableIn g v (sec img)) (sec img) → d ≡ pairwise (apart (tableIn g v (sec img)) (tableIn g v (sec img))) (entriesOf g (sec img))

@@ -8,7 +8,7 @@ use native.Mathlib.Omega.{arith}
 use lib.ListN.{length}
 use Rattle.sums.specs.Sums.{total, inRun}
 use Rattle.sums.specs.SumLaws.{total-add, total-run, total-zero}
-use Rattle.sectors.specs.Sectors.{sec}
+use Rattle.sectors.specs.Sectors.{sec, Cells}
 use Rattle.sectors.specs.FlatLaws.{sec-in}
 use Rattle.counts.specs.declared.Geo.{Geo}
 use Rattle.counts.specs.Geometry.{gF, geoOk, geoOf, countOf, tableOf}
@@ -18,7 +18,7 @@ use Rattle.directory.specs.Directory.{entriesOf}
 use Rattle.apages.specs.Bits.{bitAt, clearBits}
 use Rattle.apages.specs.BitLaws.{bit-lt}
 use Rattle.apages.specs.RunLaws.{clear-total}
-use Rattle.apages.specs.Runs.{pageOk}
+use Rattle.apages.specs.Runs.{pageOk, wanted}
 use Rattle.apages.specs.Index.{indexIn, shownPage, pageIn}
 use Rattle.card.specs.BitmapLaws.{InData, in-data, wanted-in, wanted-out, page-bits}
 use Rattle.card.specs.FileLaws.{Within, none, more, files-within, cover-out, in-run, out-run}
@@ -69,6 +69,18 @@ module _ (g : Geo) (ok : geoOk g ≡ true) (fs : List Line) (p : List ℕ) (wide
       let b : total (λ n. 1 - bitAt p n) 4096 + total (cover fs) 4096 ≡ total (inRun (gF g) (g .s - gF g)) 4096 =
       total-add (λ n. 1 - bitAt p n) (cover fs) (inRun (gF g) (g .s - gF g)) 4096 each in
       omega (arith, cover-total within 4096 (L .sHigh), total-run (gF g) (g .s - gF g) 4096, below, L .sHigh)
+
+-- a clear bit of a view's page is in the data, and no file of the view holds it
+pub clear-bit : (g : Geo) (bound : ℕ) (tab : List ℕ) (k : Cells) → geoOk g ≡ true → View g bound tab k → length (pageIn g tab k) ≡ 512 → (i : ℕ) → i < 4096 → bitAt (pageIn g tab k) i ≡ 0
+    → InData g i × (cover (filesOf tab (entriesOf g k)) i ≡ 0)
+clear-bit g bound tab k ok w l i h z = go (in-data g i)
+  where
+    all : bitAt (pageIn g tab k) i ≡ wanted g (cover (filesOf tab (entriesOf g k))) i
+    all = page-bits g (cover (filesOf tab (entriesOf g k))) (pageIn g tab k) (omega (arith, limits g ok .sHigh)) (w .page) i (omega arith)
+
+    go : Dec (InData g i) → InData g i × (cover (filesOf tab (entriesOf g k)) i ≡ 0)
+    go (yes q) = (q, sym (wanted-in g _ i q) ∙ sym all ∙ z)
+    go (no o) = absurd (omega (arith, all, wanted-out g (cover (filesOf tab (entriesOf g k))) i o))
 
 -- a view that passes, on an image of the right length
 module _ (g : Geo) (bound : ℕ) (tab img : List ℕ) (ok : geoOk g ≡ true) (sized : length img ≡ 512 * g .s) (U : View g bound tab (sec img)) where

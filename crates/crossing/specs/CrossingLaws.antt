@@ -20,6 +20,7 @@ use Rattle.session.specs.declared.Session.the-variants.{Closed, Open}
 use Rattle.store.specs.Edit.{put}
 use Rattle.store.specs.Mount.{Ended}
 use Rattle.store.specs.Sync.{land, sync}
+use Rattle.store.specs.CardLaws.{Ends}
 use Rattle.crossing.specs.Crossing.{geoWith, openedOf, sessionOf, decoded, stateOf, openedBytes, encoded, reportBytes, reported, kept}
 
 -- ---- a session from bytes
@@ -97,11 +98,7 @@ pub land-over : (b card work : List ℕ) (i : ℕ) {s : Session} {a : Answer} {w
     → (a .number ≡ land (decoded b) card work i .answer .number) × (w ≡ land (decoded b) card work i .image)
 land-over b card work i q e = changed-over (λ s. land s card work i) q e
 
--- the four parts that mount and sync give
-abbrev pub Gives : Ended → Answer → Session → List ℕ → List ℕ → Type 0
-Gives e a s card work = (a ≡ e .answer) × ((s ≡ e .session) × ((card ≡ e .card) × (work ≡ e .work)))
-
-pub mount-over : (e : Ended) {a : Answer} {s : Session} {card work b : List ℕ} → Gives e a s card work → b ≡ encoded s
+pub mount-over : (e : Ended) {a : Answer} {s : Session} {card work b : List ℕ} → Ends e a s card work → b ≡ encoded s
     → (a .number ≡ e .answer .number) × ((b ≡ encoded (e .session)) × ((card ≡ e .card) × (work ≡ e .work)))
 mount-over e (p, (q, r)) h = (ap (λ (x : Answer). x .number) p, (h ∙ ap (λ (y : Session). encoded y) q, r))
 
@@ -109,8 +106,8 @@ mount-over e (p, (q, r)) h = (ap (λ (x : Answer). x .number) p, (h ∙ ap (λ (
 abbrev pub Keeps : Ended → List ℕ → ℕ → List ℕ → List ℕ → List ℕ → Type 0
 Keeps e b k after card work = (k ≡ e .answer .number) × ((after ≡ kept e b) × ((card ≡ e .card) × (work ≡ e .work)))
 
-module _ (b card work : List ℕ) {z s : Session} {a : Answer} {k w : List ℕ} (i : z ≡ decoded b) (g : Gives (sync z card work) a s k w) where
-  given : Gives (sync (decoded b) card work) a s k w
+module _ (b card work : List ℕ) {z s : Session} {a : Answer} {k w : List ℕ} (i : z ≡ decoded b) (g : Ends (sync z card work) a s k w) where
+  given : Ends (sync (decoded b) card work) a s k w
   given = rw i at g
 
   pub sync-refused : a .number ≢ 0 → Keeps (sync (decoded b) card work) b (a .number) b k w

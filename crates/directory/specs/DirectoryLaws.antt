@@ -8,6 +8,7 @@ use native.Mathlib.Omega.{arith}
 use lib.ListN.{length, take, drop, getD}
 use Rattle.words.specs.Lists.{part, setPart, over, splice}
 use Rattle.words.specs.PartLaws.{part-part}
+use Rattle.words.specs.SpliceLaws.{over-take}
 use Rattle.sectors.specs.Sectors.{Cells, sec, setSec}
 use Rattle.counts.specs.declared.Geo.{Geo}
 use Rattle.directory.specs.Directory.{sectorEntries, entriesFrom, entriesOf, Spot, spotsFrom, spotOf, setEntry}
@@ -88,12 +89,6 @@ spot-from (suc n) i (suc (suc zero)) h = record { place = refl; inside = omega a
 spot-from (suc n) i (suc (suc (suc zero))) h = record { place = refl; inside = omega arith }
 spot-from (suc n) i (suc (suc (suc (suc j)))) h =
     let q = spot-from n (suc i) j (omega arith) in record { place = q .place ∙ omega arith; inside = q .inside }
-
-over-take : (n : ℕ) (s : List ℕ) → over s (take n s) ≡ s
-unfolding over
-over-take zero s = refl
-over-take (suc n) [] = refl
-over-take (suc n) (x ∷ s) = ap (λ (r : List ℕ). x ∷ r) (over-take n s)
 
 over-over : (n : ℕ) (s e : List ℕ) → length e ≤ n → over s (over (take n s) e) ≡ over s e
 unfolding over

@@ -1,7 +1,8 @@
 -- Entries and their places go side by side; one entry written changes the list at that place alone. Assumes nothing.
 use mathlib.Core.Path.{_≡_, refl, sym, ap, _∙_}
 use mathlib.Core.Logic.{_≢_}
-use mathlib.Core.List.{List, _++_}
+use mathlib.Core.List.{List, _++_, []}
+use mathlib.Core.Bool.{true}
 use Prim.Native.Nat.{ℕ, zero, suc, _+_, _*_, _≤_, _<_}
 use native.Mathlib.Omega.{arith}
 use lib.ListN.{length, getD, set}
@@ -10,7 +11,10 @@ use Rattle.words.specs.Lists.{setPart}
 use Rattle.words.specs.PartLaws.{part-length, setPart-length, part-same, part-other}
 use Rattle.sectors.specs.Sectors.{Cells, sec}
 use Rattle.sectors.specs.SectorLaws.{sec-length, setSec-length, sec-same, sec-other}
+use Rattle.sectors.specs.FlatLaws.{sec-in}
 use Rattle.counts.specs.declared.Geo.{Geo}
+use Rattle.counts.specs.GeoLaws.{limits}
+use Rattle.counts.specs.Geometry.{geoOk}
 use Rattle.directory.specs.Directory.{sectorEntries, entriesFrom, entriesOf, Spot, spotsFrom, spotOf, setEntry}
 
 -- ---- an entry written into its sector
@@ -137,3 +141,9 @@ module _ (k k′ : Cells) (d r : ℕ) (e : List ℕ) (here : sectorEntries (k′
       let l : j < length (spotsFrom (suc i) n) = omega arith in
       let q : i ≢ d = omega (arith, spot-ok n (suc i) j z l .low) in
       rw (there i u (omega arith) q, dir-set n (suc i) j z (omega arith) (omega arith) l a b)
+
+-- every entry of an image of the right length has 128 bytes
+pub entry-wide : (g : Geo) (img : List ℕ) → geoOk g ≡ true → length img ≡ 512 * g .s → (j : ℕ) → j < length (entriesOf g (sec img)) → length (getD (entriesOf g (sec img)) j []) ≡ 128
+entry-wide g img ok l j h =
+    let (S, e) = at-spot g (sec img) j [] h in
+    ap length e ∙ wide-at (sec img (spotOf g j .sector)) (spotOf g j .slot) [] (sec-in img (g .s) (spotOf g j .sector) l (omega (arith, S .high, limits g ok .sLow))) (S .four)

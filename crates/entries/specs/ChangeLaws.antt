@@ -6,11 +6,12 @@ use Prim.Native.Nat.{ℕ, zero, suc, _+_, _≤_, _<_, _^_}
 use native.Mathlib.Omega.{arith}
 use borrow.Author.Tests.{eq-eqb, ne-eqb, le-leb}
 use lib.Dec.{leb, eqb}
-use lib.ListN.{length, drop, getD, set, replicate, length-append, length-replicate}
+use lib.ListN.{length, drop, getD, set, length-append, length-replicate}
 use Rattle.words.specs.Lists.{every, isZero, pad}
 use Rattle.words.specs.Bytes.{wordAt, wordBytes}
 use Rattle.words.specs.BoolLaws.{join}
 use Rattle.words.specs.WordLaws.{join-bytes}
+use Rattle.words.specs.EveryMore.{zeros-zero}
 use Rattle.counts.specs.declared.Geo.{Geo}
 use Rattle.counts.specs.declared.Stamp.{Stamp}
 use Rattle.counts.specs.Geometry.{gN, gF}
@@ -28,11 +29,6 @@ use Rattle.entries.specs.CodecLaws.{FitVersion, FitEntry, version-back, 
 pub pad-length : (n : ℕ) (l : List ℕ) → length l ≤ n → length (pad n l) ≡ n
 unfolding pad
 pad-length n l h = simp (length-append, length-replicate) (omega arith)
-
-pub zeros-zero : (n : ℕ) → every isZero (replicate n 0) ≡ true
-unfolding every
-zeros-zero zero = refl
-zeros-zero (suc n) = zeros-zero n
 
 -- ---- versions that may be written
 

@@ -1,6 +1,6 @@
 -- "An entry is 32 words": its codec, what it shows, and when it is well formed. An entry is its 128 bytes. Assumes nothing.
 use mathlib.Core.Bool.{Bool, true, false, cond, _&&_, _||_}
-use mathlib.Core.List.{List, [], _∷_, _++_}
+use mathlib.Core.List.{List, _++_}
 use Prim.Native.Nat.{ℕ, _+_, _/_}
 use lib.ListN.{length, take, drop, replicate}
 use lib.Dec.{leb, eqb}

@@ -18,7 +18,7 @@ use Rattle.counts.specs.GeoLaws.{Limits}
 use Rattle.counts.specs.Stamps.{stampOf, stampOk, deadBelow}
 use Rattle.entries.specs.declared.Run.{Run}
 use Rattle.entries.specs.declared.Version.the-variants.{Absent, Present}
-use Rattle.entries.specs.Entries.{versionOf, nameBytes, shownBytes, shown, isAbsent, goodByte, nameOf, nameOk, sectorsFor, runOk, versionOk, entryOk}
+use Rattle.entries.specs.Entries.{versionOf, nameBytes, shownBytes, shown, isAbsent, goodByte, nameOf, nameOk, sectorsFor, runOk, versionOk, entryOk, goodName}
 
 pub record Passes (g : Geo) (bound : ℕ) (tab p : List ℕ) : Type 0 where
   pub stamp : stampOk g (stampOf p) ≡ true
@@ -122,3 +122,7 @@ version-run g v {r} h e = go (eqb (wordAt v 0) 0) refl
 pub shown-run : (g : Geo) (tab p : List ℕ) {r : Run} → versionOk g (shownBytes tab p) ≡ true → shown tab p ≡ Present r → RunIs g r
 unfolding shown
 shown-run g tab p {r} h e = run-is g r (version-run g (shownBytes tab p) h e)
+
+pub short-name : (n : List ℕ) → goodName n ≡ true → length n ≤ 32
+unfolding goodName
+short-name n h = leb-true (length n) 32 (both (leb 1 (length n)) (leb (length n) 32) (both _ (every goodByte n) h .0) .1)

@@ -16,21 +16,23 @@ use Rattle.directory.specs.Directory.{entriesOf, apart, named}
 use Rattle.directory.specs.NameLaws.{is-present}
 use Rattle.apages.specs.Runs.{runFor}
 use Rattle.apages.specs.Index.{pageIn}
+use Rattle.apages.specs.LowestLaws.{run-clear}
 use Rattle.card.specs.Plan.{Plan, doIt, ended, refused, done, Changed}
 use Rattle.card.specs.PlanLaws.{Num, no!, go! }
 use Rattle.card.specs.Files.{filesOf, cover}
-use Rattle.card.specs.SpaceLaws.{page-wide}
+use Rattle.card.specs.SpaceLaws.{page-wide, clear-bit}
 use Rattle.session.specs.declared.Opened.{Opened}
 use Rattle.session.specs.declared.Session.{Session}
 use Rattle.session.specs.declared.Session.the-variants.{Closed, Open}
 use Rattle.session.specs.Views.{cutTable, presentPage, cutPage}
 use Rattle.session.specs.FitLaws.{Fit, fit-inv, present-live}
 use Rattle.store.specs.Edit.{putPlace, placeIn, runIn, putPlan, putRun, putWork, put, removePlan, removeWork, remove}
+use Rattle.store.specs.PlaceLaws.{Named, name-found, place-named}
+use Rattle.store.specs.EditPlans.{put-inv, put-num, remove-inv, remove-num}
 use Rattle.promises.specs.PlainList.{without, With, shownIn}
 use Rattle.promises.specs.Alone.{place-alone, found-alone}
 use Rattle.promises.specs.Ready.{tcOf, tpOf, entryAt, cut, pres}
-use Rattle.promises.specs.Spots.{Named, name-found, place-named, run-clear, put-inv, put-num, remove-inv, remove-num}
-use Rattle.promises.specs.Calls.{clear-bit, put-ready, remove-ready}
+use Rattle.promises.specs.Calls.{put-ready, remove-ready}
 use Rattle.promises.specs.Answered.{gone-now, added-now}
 
 -- ---- the statement

@@ -27,7 +27,7 @@ use Rattle.session.specs.Views.{presentTable, presentPage}
 use Rattle.session.specs.FitLaws.{present-live}
 use Rattle.store.specs.Edit.{editWork}
 use Rattle.store.specs.EditLaws.{CanEdit}
-use Rattle.promises.specs.Idx.{now-page}
+use Rattle.apages.specs.IndexViews.{now-page}
 use Rattle.promises.specs.Ready.{ownOf, tcOf, tpOf, indexAt, indexFor, oldRun, lim, hc, hw, pres, idxCut, idxStamp, pages, from-page, Ready, spot}
 use Rattle.promises.specs.Change.{quiet, index-now, page-now, left-alone}
 

@@ -1,59 +1,38 @@
 -- A put or remove that gives 0 is ready, and keeps the cut view sector by sector. Assumes nothing.
 use mathlib.Core.Path.{_≡_, refl, sym, _∙_}
-use mathlib.Core.Bool.{true, false}
+use mathlib.Core.Bool.{false}
 use mathlib.Core.List.{List, []}
 use Prim.Native.Nat.{ℕ, _+_, _*_, _≤_, _<_}
 use native.Mathlib.Omega.{arith}
-use borrow.Author.Tests.{leb-true}
-use lib.Dec.{leb}
 use lib.ListN.{length, length-take, length-drop}
 use Rattle.words.specs.declared.Found.the-variants.{At}
-use Rattle.words.specs.Lists.{every, pad}
+use Rattle.words.specs.Lists.{pad}
 use Rattle.words.specs.Bytes.{wordAt}
-use Rattle.words.specs.BoolLaws.{both}
 use Rattle.sectors.specs.Sectors.{Cells, sec}
-use Rattle.sectors.specs.FlatLaws.{sec-in}
-use Rattle.counts.specs.declared.Geo.{Geo}
-use Rattle.counts.specs.Geometry.{gN, geoOk}
-use Rattle.counts.specs.GeoLaws.{limits}
+use Rattle.counts.specs.Geometry.{gN}
 use Rattle.entries.specs.declared.Version.the-variants.{Absent, Present}
-use Rattle.entries.specs.Entries.{nameBytes, shown, isAbsent, goodName, goodByte, sectorsFor}
-use Rattle.entries.specs.PassLaws.{good-name, name-padded}
+use Rattle.entries.specs.Entries.{nameBytes, shown, isAbsent, sectorsFor}
+use Rattle.entries.specs.PassLaws.{good-name, name-padded, short-name}
 use Rattle.entries.specs.ChangeLaws.{GoodVersion}
 use Rattle.directory.specs.Directory.{entriesOf}
-use Rattle.directory.specs.SpotLaws.{at-spot, wide-at}
-use Rattle.apages.specs.Bits.{bitAt}
-use Rattle.apages.specs.Runs.{runFor, wanted}
+use Rattle.directory.specs.SpotLaws.{entry-wide}
+use Rattle.apages.specs.Runs.{runFor}
 use Rattle.apages.specs.Index.{pageIn}
+use Rattle.apages.specs.LowestLaws.{run-for-none, run-clear, run-fits}
 use Rattle.card.specs.Plan.{doIt}
 use Rattle.card.specs.Files.{cover, filesOf}
 use Rattle.card.specs.FileLaws.{Holds, held-cover}
 use Rattle.card.specs.Reading.{filesIn}
-use Rattle.card.specs.SpaceLaws.{page-wide}
-use Rattle.card.specs.SoundLaws.{View, entry-passes}
-use Rattle.card.specs.BitmapLaws.{InData, in-data, wanted-in, wanted-out, page-bits}
+use Rattle.card.specs.SpaceLaws.{page-wide, clear-bit}
+use Rattle.card.specs.SoundLaws.{entry-passes}
+use Rattle.card.specs.BitmapLaws.{InData}
 use Rattle.session.specs.declared.Opened.{Opened}
 use Rattle.session.specs.Views.{cutTable, presentTable, presentPage, cutPage}
 use Rattle.session.specs.FitLaws.{Fit, fit-inv, present-live}
 use Rattle.store.specs.Edit.{putPlace, placeIn, runIn, putPlan, putRun, removePlan}
-use Rattle.promises.specs.Ready.{tcOf, tpOf, entryAt, lim, cut, pres, Ready}
-use Rattle.promises.specs.Spots.{Named, name-found, place-named, run-none, run-clear, run-fits, put-inv, remove-inv}
-
-short-name : (n : List ℕ) → goodName n ≡ true → length n ≤ 32
-unfolding goodName
-short-name n h = leb-true (length n) 32 (both (leb 1 (length n)) (leb (length n) 32) (both _ (every goodByte n) h .0) .1)
-
--- a clear bit of a view's page is in the data, and no file of the view holds it
-pub clear-bit : (g : Geo) (bound : ℕ) (tab : List ℕ) (k : Cells) → geoOk g ≡ true → View g bound tab k → length (pageIn g tab k) ≡ 512 → (i : ℕ) → i < 4096 → bitAt (pageIn g tab k) i ≡ 0
-    → InData g i × (cover (filesOf tab (entriesOf g k)) i ≡ 0)
-clear-bit g bound tab k ok w l i h z = go (in-data g i)
-  where
-    all : bitAt (pageIn g tab k) i ≡ wanted g (cover (filesOf tab (entriesOf g k))) i
-    all = page-bits g (cover (filesOf tab (entriesOf g k))) (pageIn g tab k) (omega (arith, limits g ok .sHigh)) (w .page) i (omega arith)
-
-    go : Dec (InData g i) → InData g i × (cover (filesOf tab (entriesOf g k)) i ≡ 0)
-    go (yes q) = (q, sym (wanted-in g _ i q) ∙ sym all ∙ z)
-    go (no o) = absurd (omega (arith, all, wanted-out g (cover (filesOf tab (entriesOf g k))) i o))
+use Rattle.store.specs.PlaceLaws.{Named, name-found, place-named}
+use Rattle.store.specs.EditPlans.{put-inv, remove-inv}
+use Rattle.promises.specs.Ready.{tcOf, tpOf, entryAt, cut, pres, Ready}
 
 -- ---- a plan that goes through makes the change ready
 
@@ -62,9 +41,7 @@ module _ (s : Opened) (work : List ℕ) (k₀ : Cells) (same-files : filesIn (s 
       → isAbsent (shown (tcOf s work) (entryAt s j work)) ≡ false
       → (wordAt (entryAt s j work) 8 ≡ length n) × (nameBytes (entryAt s j work) ≡ pad 32 n)
   named-is n j F live N e =
-      let L = lim s work F live in
-      let (sp, q) = at-spot (s .geo) (sec work) j [] (N .below) in
-      let l : length (entryAt s j work) ≡ 128 = rw q (wide-at _ _ [] (sec-in work (s .geo .s) _ (F .sized) (omega (arith, sp .high, L .sLow))) (sp .four)) in
+      let l : length (entryAt s j work) ≡ 128 = entry-wide (s .geo) work (F .shape) (F .sized) j (N .below) in
       let P = entry-passes (s .geo) (gN (s .geo)) (tcOf s work) (sec work) j [] (cut s work F live) (N .below) in
       name-padded (entryAt s j work) n (good-name (s .geo) _ _ _ P e) (name-wide l) (N .name′ e)
     where
@@ -135,4 +112,4 @@ module _ (s : Opened) (work : List ℕ) (k₀ : Cells) (same-files : filesIn (s 
           → runFor (sectorsFor (length d)) (pageIn (s .geo) (tpOf s work) (sec work)) (pageIn (s .geo) (tcOf s work) (sec work))
           ≡ At a
           → GoodVersion (s .geo) (Present (putRun a d))
-      good r f run = unfold putRun in record { size = refl; span = λ l. (r a (omega arith) (omega arith) .0 .0, f); empty = λ z. run-none _ a _ _ run z }
+      good r f run = unfold putRun in record { size = refl; span = λ l. (r a (omega arith) (omega arith) .0 .0, f); empty = λ z. run-for-none _ a _ _ run z }

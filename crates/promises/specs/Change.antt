@@ -23,9 +23,9 @@ use Rattle.session.specs.Views.{ownStamp}
 use Rattle.session.specs.FitLaws.{present-live}
 use Rattle.store.specs.Edit.{putContent, editWork}
 use Rattle.store.specs.EditLaws.{content-length, content-other}
-use Rattle.promises.specs.Keep.{EntrySame, IdxSame, idx-refl}
+use Rattle.promises.specs.Keep.{EntrySame}
 use Rattle.promises.specs.Edit.{Edit, step-same}
-use Rattle.promises.specs.Idx.{hidden, index-step}
+use Rattle.apages.specs.IndexViews.{hidden, index-step, IdxSame, idx-refl}
 use Rattle.promises.specs.Ready.{ownOf, tcOf, tpOf, entryAt, entryFor, indexAt, standFor, indexFor, oldRun, lim, hc, hw, idxCut, idxStamp, pages, from-pages, Ready, spot, spot-is, in-card, inCut, stamps, wide}
 
 module _ (s : Opened) (j a k : ℕ) (v : Version) (work n d : List ℕ) (k₀ : Cells) (R : Ready s j a k v work n d k₀) where

@@ -21,9 +21,10 @@ use Rattle.entries.specs.Entries.{nameBytes, entryOf, entryBytes, shownBytes, s
 use Rattle.entries.specs.ChangeLaws.{GoodVersion, bytes-stamp, bytes-size, bytes-name, bytes-zeros, cut-shown, cut-wf}
 use Rattle.directory.specs.Directory.{sectorEntries}
 use Rattle.apages.specs.Index.{indexIn, shownPage}
+use Rattle.apages.specs.IndexViews.{IdxSame}
 use Rattle.card.specs.FileLaws.{Holds}
 use Rattle.card.specs.Reading.{filesIn}
-use Rattle.promises.specs.Keep.{EntrySame, IdxSame, Keeps}
+use Rattle.promises.specs.Keep.{EntrySame, Keeps}
 
 -- a changed entry is read at a cut as before: the name is kept where the cut view shows one
 pub step-same : (g : Geo) (L : Limits g) (tab : List ℕ) (own : Stamp) → (hc : own .cc .0 < length tab) → (hw : getD tab (own .cc .0) 0 + 1 ≡ own .txc .0)

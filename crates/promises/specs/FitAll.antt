@@ -14,6 +14,7 @@ use Rattle.counts.specs.GeoLaws.{max-set, past-set}
 use Rattle.entries.specs.declared.Version.the-variants.{Absent, Present}
 use Rattle.entries.specs.Entries.{sectorsFor}
 use Rattle.directory.specs.Directory.{entriesOf, named}
+use Rattle.apages.specs.LowestLaws.{run-clear}
 use Rattle.card.specs.Plan.{doIt}
 use Rattle.card.specs.Files.{runOf}
 use Rattle.card.specs.SpaceLaws.{page-wide}
@@ -22,9 +23,10 @@ use Rattle.session.specs.declared.Opened.{Opened}
 use Rattle.session.specs.FitLaws.{Fit, fit-inv, present-live}
 use Rattle.store.specs.Edit.{putPlan, putRun, putWork, removePlan, removeWork}
 use Rattle.store.specs.Steps.{setWord, tableSector, syncWork}
+use Rattle.store.specs.PlaceLaws.{name-found, place-named}
+use Rattle.store.specs.EditPlans.{put-inv, remove-inv}
 use Rattle.promises.specs.Alone.{place-alone, found-alone}
 use Rattle.promises.specs.Ready.{tcOf, tpOf, hc, cut, pres}
-use Rattle.promises.specs.Spots.{name-found, place-named, run-clear, put-inv, remove-inv}
 use Rattle.promises.specs.Calls.{put-ready, remove-ready}
 use Rattle.promises.specs.Answers.{apart-live, named-live, place-live, run-live, run-free}
 use Rattle.promises.specs.FitEdit.{fit-edit}

@@ -38,7 +38,7 @@ use Rattle.session.specs.FitLaws.{Fit, present-live}
 use Rattle.store.specs.Edit.{editWork}
 use Rattle.promises.specs.Keep.{Keeps, keeps-refl, view-same}
 use Rattle.promises.specs.Edit.{edit-keeps}
-use Rattle.promises.specs.Idx.{now-page}
+use Rattle.apages.specs.IndexViews.{now-page}
 use Rattle.promises.specs.Ready.{ownOf, tcOf, tpOf, entryAt, entryFor, indexAt, indexFor, oldRun, lim, hc, hw, cut, pres, idxCut, idxStamp, pages, from-page, Ready, spot, inPres, stamps}
 use Rattle.promises.specs.Change.{edit-length, quiet, index-now, page-now, left-alone, entries-now, change-edit}
 use Rattle.promises.specs.Answered.{new-name, new-shown}

@@ -22,9 +22,9 @@ use Rattle.store.specs.Steps.{mountSteps, syncSteps, unmountSteps, syncWork, at
 use Rattle.store.specs.Mount.{Ended, mountPlan, openedFrom, mountDone, mount}
 use Rattle.store.specs.Edit.{put, remove}
 use Rattle.store.specs.Sync.{land, grown, syncDone, sync, unmountDone, unmount}
+use Rattle.store.specs.EditPlans.{put-num, remove-num}
 use Rattle.promises.specs.PlainList.{Item, shownBy, shownIn}
 use Rattle.promises.specs.History.{Pending, World, Call, makeC, mountC, syncC, unmountC, putC, removeC, landC, getC, listC, freeC, play, allWritten, settled, afterCut, byNumber, endOpen, before, stepsOf, syncsBy, unmountsBy, edited, stepped, after, Reach, fresh, call, cut, cutIn}
-use Rattle.promises.specs.Spots.{put-num, remove-num}
 use Rattle.promises.specs.Inv.{mk}
 use Rattle.promises.specs.Steps.{by-plan, both-num, make-num}
 use Rattle.promises.specs.StepAll.{mount-num, mount-few, not-top, sync-live}

@@ -3,7 +3,7 @@ use mathlib.Core.Path.{_≡_, refl}
 use mathlib.Core.Bool.{true, false}
 use mathlib.Core.List.{List}
 use mathlib.Core.Logic.{⊎-elim}
-use Prim.Native.Nat.{ℕ, _+_, _*_, _^_, _≤_, _<_}
+use Prim.Native.Nat.{ℕ, _+_, _*_, _≤_, _<_}
 use native.Mathlib.Omega.{arith}
 use borrow.Author.Tests.{leb-true, ltb-true}
 use lib.Dec.{leb, ltb}
@@ -14,7 +14,7 @@ use Rattle.sectors.specs.Sectors.{sec, applySteps}
 use Rattle.counts.specs.declared.Geo.{Geo}
 use Rattle.counts.specs.declared.Stamp.{Stamp}
 use Rattle.counts.specs.Geometry.{gN, geoOf, countOf, tableOf}
-use Rattle.counts.specs.GeoLaws.{limits, Table, table-inv}
+use Rattle.counts.specs.GeoLaws.{Table, table-inv}
 use Rattle.counts.specs.Stamps.{stampOf, alive, deadBelow}
 use Rattle.entries.specs.Entries.{entryOk}
 use Rattle.entries.specs.PassLaws.{passes}
@@ -29,9 +29,9 @@ use Rattle.session.specs.declared.Opened.{Opened}
 use Rattle.session.specs.Fits.{stampAtMost, entryAtMost}
 use Rattle.session.specs.FitLaws.{Fit, head-intro, at-most-intro}
 use Rattle.store.specs.Steps.{setCount, mountSteps}
-use Rattle.store.specs.StepLaws.{count-length, count-other, count-count, count-geo, count-tail}
 use Rattle.store.specs.Mount.{openedFrom}
 use Rattle.store.specs.Sync.{grown}
+use Rattle.store.specs.StepLaws.{up-length, up-geo, mount-bump}
 use Rattle.promises.specs.PlainList.{items}
 use Rattle.promises.specs.FitCalm.{Rest, rest-fits}
 use Rattle.promises.specs.State.{good-rests}
@@ -76,29 +76,17 @@ module _ (card : List ℕ) (shape : shapeOk card ≡ true) (good : sound card �
   sized : length card ≡ 512 * g .s
   sized = shape-inv card shape .1
 
-  pos : 0 < g .s
-  pos = omega (arith, limits g (shape-inv card shape .0) .sLow)
-
-  small : countOf (sec card) + 1 < 2 ^ 32
-  unfolding gN
-  small = omega (arith, few, limits g (shape-inv card shape .0) .tHigh)
-
-  pub mount-bump : Bump (sec card) (sec up)
-  mount-bump =
-      record {
-        count = count-count (countOf (sec card) + 1) (g .s) card small sized pos;
-        tail = count-tail (countOf (sec card) + 1) (g .s) card small sized pos;
-        other = count-other (countOf (sec card) + 1) (g .s) card small sized pos;
-      }
+  bump : Bump (sec card) (sec up)
+  bump = mount-bump card (shape-inv card shape .0) sized few
 
   tb : tableOf g (sec up) ≡ tableOf g (sec card)
-  tb = bump-table g (sec card) (sec up) mount-bump
+  tb = bump-table g (sec card) (sec up) bump
 
   ea : entriesOf g (sec up) ≡ entriesOf g (sec card)
-  ea = entries-agree g (sec card) (sec up) 0 (omega arith) (mount-bump .other)
+  ea = entries-agree g (sec card) (sec up) 0 (omega arith) (bump .other)
 
   ia : indexIn g (sec up) ≡ indexIn g (sec card)
-  ia = index-agree g (sec card) (sec up) 0 (omega arith) (mount-bump .other)
+  ia = index-agree g (sec card) (sec up) 0 (omega arith) (bump .other)
 
   tt-table : Table g (countOf (sec card)) (tableOf g (sec card))
   tt-table = table-inv g (countOf (sec card)) (tableOf g (sec card)) (S .tab)
@@ -108,12 +96,12 @@ module _ (card : List ℕ) (shape : shapeOk card ≡ true) (good : sound card �
       record {
         shape = shape-inv card shape .0;
         count = few;
-        sized = count-length (countOf (sec card) + 1) (g .s) card small sized pos;
-        head = head-intro (atWord card) (sec up) (record { count = mount-bump .count; geo = count-geo (countOf (sec card) + 1) (g .s) card small sized pos; tail = rw (mount-bump .tail) (S .tail) });
+        sized = up-length card (shape-inv card shape .0) sized few;
+        head = head-intro (atWord card) (sec up) (record { count = bump .count; geo = up-geo card (shape-inv card shape .0) sized few; tail = rw (bump .tail) (S .tail) });
         word = rw tb;
         max = rw tb (tt-table .max);
         past = rw tb (tt-table .past);
-        view = rw tb (view-agree g (sec card) (sec up) 0 (omega arith) (mount-bump .other) (countOf (sec card)) (tableOf g (sec card)) (S .view));
+        view = rw tb (view-agree g (sec card) (sec up) 0 (omega arith) (bump .other) (countOf (sec card)) (tableOf g (sec card)) (S .view));
         alone = rw (tb, ea) (S .alone);
         stamps = rw ea
             (every-weaker (entryOk g (countOf (sec card)) (tableOf g (sec card))) (entryAtMost (atWord card)) (entriesOf g (sec card))

@@ -7,12 +7,13 @@ use Prim.Native.Nat.{ℕ, _+_, _-_, _≤_, _<_}
 use native.Mathlib.Omega.{arith}
 use borrow.Author.Tests.{lt-ltb, le-leb}
 use lib.Dec.{leb}
-use lib.ListN.{length, getD, set, replicate}
+use lib.ListN.{length, getD, replicate}
 use lib.Seq.{take-at, drop-at}
 use Rattle.sums.specs.Sums.{inRun}
 use Rattle.words.specs.Lists.{every, pad}
 use Rattle.words.specs.Bytes.{wordAt}
 use Rattle.words.specs.BoolLaws.{join, or-intro}
+use Rattle.words.specs.EveryMore.{zeros-zero}
 use Rattle.sectors.specs.Sectors.{Cells, sec}
 use Rattle.counts.specs.declared.Geo.{Geo}
 use Rattle.counts.specs.Geometry.{gN, geoOf, countOf, tableOf}
@@ -23,7 +24,7 @@ use Rattle.entries.specs.declared.Version.{Version}
 use Rattle.entries.specs.declared.Version.the-variants.{Absent}
 use Rattle.entries.specs.Entries.{nameBytes, shown, isAbsent, goodByte, goodName, nameOf, nameOk, entryOk}
 use Rattle.entries.specs.PassLaws.{passes-intro}
-use Rattle.entries.specs.ChangeLaws.{zeros-zero, bytes-stamp, bytes-size, bytes-name, bytes-zeros, now-wf}
+use Rattle.entries.specs.ChangeLaws.{bytes-stamp, bytes-size, bytes-name, bytes-zeros, now-wf}
 use Rattle.directory.specs.Directory.{entriesOf}
 use Rattle.apages.specs.Bits.{bitAt}
 use Rattle.apages.specs.Index.{indexBytes, indexIn, pairOk, pageIn}
@@ -36,9 +37,9 @@ use Rattle.session.specs.Views.{presentTable}
 use Rattle.session.specs.Fits.{headOk, entryAtMost, stampAtMost}
 use Rattle.session.specs.FitLaws.{Fit, present-live, at-most-intro}
 use Rattle.store.specs.Edit.{editWork}
-use Rattle.promises.specs.Idx.{back-stamp, back-a, back-b, pair-ab}
+use Rattle.apages.specs.IndexViews.{back-stamp, back-a, back-b, pair-ab}
 use Rattle.promises.specs.Ready.{ownOf, tcOf, tpOf, entryAt, entryFor, indexAt, indexFor, lim, hc, hw, pres, idxCut, idxStamp, Ready, inCut, stamps}
-use Rattle.promises.specs.Change.{index-now, entries-now}
+use Rattle.promises.specs.Change.{index-now}
 use Rattle.promises.specs.Alone.{Alone}
 use Rattle.promises.specs.Answered.{same-table, same-tp}
 
@@ -76,9 +77,6 @@ module _ (s : Opened) (j a k : ℕ) (v : Version) (work n d : List ℕ) (M : Mad
   abbrev tc : List ℕ
   tc = tcOf s work
 
-  abbrev es : List (List ℕ)
-  es = entriesOf (s .geo) (sec work)
-
   abbrev x : List ℕ
   x = entryFor s j v work n
 
@@ -102,9 +100,6 @@ module _ (s : Opened) (j a k : ℕ) (v : Version) (work n d : List ℕ) (M : Mad
 
   pub tab≡ : tableOf g (sec after) ≡ tc
   tab≡ = same-table s j a k v work n d (sec work) R (M .alone) (M .named) (M .free)
-
-  pub es≡ : entriesOf g (sec after) ≡ set es j x
-  es≡ = entries-now s j a k v work n d (sec work) R
 
   pub pres≡ : presentTable s (sec after) ≡ tp
   pres≡ = present-live s (sec after) (R .live) ∙ same-tp s j a k v work n d (sec work) R (M .alone) (M .named) (M .free)

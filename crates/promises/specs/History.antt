@@ -16,7 +16,6 @@ use Rattle.card.specs.Files.{cover}
 use Rattle.card.specs.Sound.{shapeOk, sound}
 use Rattle.card.specs.Make.{freshCard, make}
 use Rattle.card.specs.Reading.{filesShown, pageShown}
-use Rattle.session.specs.declared.Opened.{Opened}
 use Rattle.session.specs.declared.Session.{Session}
 use Rattle.session.specs.declared.Session.the-variants.{Closed, Open}
 use Rattle.store.specs.Steps.{mountSteps, syncSteps, unmountSteps}

@@ -21,8 +21,9 @@ use Rattle.entries.specs.declared.Version.the-variants.{Absent, Present}
 use Rattle.entries.specs.Entries.{shownBytes, shown, isAbsent, nameBytes, nameOf, nameOk, versionOk, entryOk}
 use Rattle.entries.specs.PassLaws.{passes, passes-intro}
 use Rattle.directory.specs.Directory.{sectorEntries, entriesFrom, entriesOf, gone, apart}
-use Rattle.apages.specs.Index.{indexIn, pairOk, indexOk, shownPage, pageIn}
+use Rattle.apages.specs.Index.{indexIn, indexOk, shownPage, pageIn}
 use Rattle.apages.specs.PassLaws.{index-inv, index-intro}
+use Rattle.apages.specs.IndexViews.{IdxSame, idx-refl}
 use Rattle.card.specs.declared.Line.{Line}
 use Rattle.card.specs.Files.{consFile, filesOf}
 use Rattle.card.specs.FileLaws.{Holds}
@@ -106,16 +107,7 @@ module _ (g : Geo) (tab : List ℕ) (own : Stamp) where
           name = rw (s .same) (name-same (shown tab p₀) p₀ p (s .named) (P .name));
         })
 
--- ---- the index sector
-
-pub record IdxSame (g : Geo) (tab : List ℕ) (own : Stamp) (x₀ x : List ℕ) : Type 0 where
-  pub page : shownPage tab x ≡ shownPage tab x₀
-  pub stamp : (stampOf x ≡ stampOf x₀) ⊎ (stampOf x ≡ own)
-  pub zeros : every isZero (drop 16 x) ≡ every isZero (drop 16 x₀)
-  pub pair : pairOk g (wordAt x 8) (wordAt x 12) ≡ pairOk g (wordAt x₀ 8) (wordAt x₀ 12)
-
-pub idx-refl : (g : Geo) (tab : List ℕ) (own : Stamp) (x : List ℕ) → IdxSame g tab own x x
-idx-refl g tab own x = record { page = refl; stamp = inl refl; zeros = refl; pair = refl }
+-- ---- a sector
 
 -- what may stand in sector i at a cut: relative to the sectors k₀ of the latest moment and the running stamp
 pub record Keeps (g : Geo) (own : Stamp) (k₀ : Cells) (i : ℕ) (s : List ℕ) : Type 0 where

@@ -14,14 +14,11 @@ pub mod History
 pub mod Keep
 pub mod Alone
 pub mod Edit
-pub mod Idx
 pub mod Ready
 pub mod Change
-pub mod Spots
 pub mod Calls
 pub mod Answered
 pub mod Answers
-pub mod LookLaws
 pub mod FitParts
 pub mod FitEdit
 pub mod FitCalm

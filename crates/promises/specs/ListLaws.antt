@@ -45,6 +45,10 @@ unfolding contentOf
 content-length g img r l R =
     length-take-le (r .bytes) (drop (512 * r .start .0) img) (simp length-drop (omega (arith, run-holds g r R, run-room g r R)))
 
+-- two items with other names
+abbrev pub differ : Item → Item → Bool
+differ x y = not (eqList (x .name) (y .name))
+
 module _ (tab img : List ℕ) where
   abbrev pub listOf : List (List ℕ) → List Item
   listOf ps = items img (filesOf tab ps)
@@ -104,9 +108,6 @@ module _ (tab img : List ℕ) where
             rw (list-present p ps e, files-present p ps e) (one-more t r)
 
   -- ---- no two alike
-
-  abbrev pub differ : Item → Item → Bool
-  differ x y = not (eqList (x .name) (y .name))
 
   apart-shown : (tc p q : List ℕ) {r r′ : Run} → shown tab p ≡ Present r → shown tab q ≡ Present r′ → apart tab tc p q ≡ true → not (eqList (nameOf p) (nameOf q)) ≡ true
   unfolding apart gone

@@ -2,7 +2,7 @@
 use mathlib.Core.Path.{_≡_, refl, sym, ap, _∙_, fun-ext}
 use mathlib.Core.List.{List, [], List·Memᴰ, List·Memᴰ·head}
 use mathlib.Core.Logic.{inr, ⊎-elim}
-use Prim.Native.Nat.{ℕ, _+_, _*_, _^_, _<_}
+use Prim.Native.Nat.{ℕ, _+_, _*_, _<_}
 use native.Mathlib.Omega.{arith}
 use native.Mathlib.Decide.{ℕ-discrete}
 use lib.ListN.{length, drop}
@@ -16,8 +16,8 @@ use Rattle.card.specs.Reading.{filesIn}
 use Rattle.card.specs.SoundLaws.{sound-inv}
 use Rattle.card.specs.AgreeLaws.{Bump, bump-table, bump-sound}
 use Rattle.store.specs.Steps.{setCount, mountSteps}
-use Rattle.store.specs.StepLaws.{count-length, count-other, count-count, count-geo, count-tail}
 use Rattle.store.specs.Mount.{openedFrom}
+use Rattle.store.specs.StepLaws.{up-length, up-geo, mount-bump}
 use Rattle.promises.specs.PlainList.{Item, items}
 use Rattle.promises.specs.History.{Pending, written, newest, play, settled, Left, Reads}
 use Rattle.promises.specs.Keep.{keeps-refl}
@@ -39,25 +39,17 @@ module _ (card : List ℕ) (p : Pending) (m : List Item) (K : AtRest (geoOf (sec
   abbrev pub up : List ℕ
   up = setCount (countOf (sec card) + 1) card
 
-  small : countOf (sec card) + 1 < 2 ^ 32
-  small = go few
-    where
-      go : countOf (sec card) < gN g → countOf (sec card) + 1 < 2 ^ 32
-      go h = unfold gN in omega (arith, h, L .tHigh)
-
-  pub up-length : length up ≡ 512 * g .s
-  up-length = count-length _ (g .s) card small (K .calm .is .sized) pos
+  wide-up : length up ≡ 512 * g .s
+  wide-up = up-length card (K .calm .is .ok) (K .calm .is .sized) few
 
   wide : length (sec up 0) ≡ 512
-  wide = sec-in up (g .s) 0 up-length pos
+  wide = sec-in up (g .s) 0 wide-up pos
 
   bump : Bump (sec card) (sec up)
-  bump =
-      let l = K .calm .is .sized in
-      record { count = count-count _ (g .s) card small l pos; tail = count-tail _ (g .s) card small l pos; other = count-other _ (g .s) card small l pos }
+  bump = mount-bump card (K .calm .is .ok) (K .calm .is .sized) few
 
   geo : geoOf (sec up) ≡ g
-  geo = count-geo _ (g .s) card small (K .calm .is .sized) pos
+  geo = up-geo card (K .calm .is .ok) (K .calm .is .sized) few
 
   -- ---- the cuts inside
 
@@ -98,7 +90,7 @@ module _ (card : List ℕ) (p : Pending) (m : List Item) (K : AtRest (geoOf (sec
 
   pub mount-card : applySteps (mountSteps card) card ≡ up
   unfolding mountSteps applySteps
-  mount-card = image-same _ up (g .s) (setSec-length card 0 (sec up 0) ∙ K .calm .is .sized) up-length (λ i l. go i (ℕ-discrete i 0))
+  mount-card = image-same _ up (g .s) (setSec-length card 0 (sec up 0) ∙ K .calm .is .sized) wide-up (λ i l. go i (ℕ-discrete i 0))
     where
       go : (i : ℕ) → Dec (i ≡ 0) → sec (setSec card 0 (sec up 0)) i ≡ sec up i
       go i (yes e) = rw e (set-here (g .s) card _ 0 (K .calm .is .sized) pos wide)
@@ -114,7 +106,7 @@ module _ (card : List ℕ) (p : Pending) (m : List Item) (K : AtRest (geoOf (sec
         count = omega (arith, bump .count);
         good = bump-sound g (sec card) (sec up) bump few (K .calm .is .good);
         word = rw (bump-table g (sec card) (sec up) bump);
-        sized = up-length;
+        sized = wide-up;
       }
 
   pub mount-live : Live (openedFrom card) up up (settled up) m
@@ -146,4 +138,4 @@ module _ (card : List ℕ) (p : Pending) (m : List Item) (K : AtRest (geoOf (sec
       may i = unfold settled in List·Memᴰ·head refl
 
       sized : length up ≡ 512 * openedFrom card .geo .s
-      sized = unfold openedFrom in up-length
+      sized = unfold openedFrom in wide-up

@@ -21,6 +21,7 @@ use Rattle.session.specs.FitLaws.{Fit, fit-inv}
 use Rattle.store.specs.Steps.{setCount, setWord, mountSteps, syncSteps, atTop, downSteps, unmountStepsBy, unmountSteps}
 use Rattle.store.specs.Mount.{Ended, mountDone, mount}
 use Rattle.store.specs.Sync.{syncDone, sync, unmountDone, unmount}
+use Rattle.store.specs.StepLaws.{up-length}
 use Rattle.promises.specs.PlainList.{Item}
 use Rattle.promises.specs.History.{Pending, written, newest, play, settled, Left, World, afterCut, byNumber, endOpen, before, syncsBy, unmountsBy, stepsOf, pendingIn, Call, makeC, mountC, syncC, unmountC, putC, removeC, landC, getC, listC, freeC, Reach}
 use Rattle.promises.specs.Synced.{sync-length}
@@ -28,7 +29,6 @@ use Rattle.promises.specs.Play.{written-here, written-there}
 use Rattle.promises.specs.State.{AtRest}
 use Rattle.promises.specs.Inv.{OpenInv, InvOf, Inv, mk, inv-calm, inv-reads, inv-left}
 use Rattle.promises.specs.SyncEnd.{down-length}
-use Rattle.promises.specs.MountRun.{up-length}
 use Rattle.promises.specs.Steps.{both-inv, both-num, to-live}
 use Rattle.promises.specs.StepAll.{mount-num, mount-few, own-geo, not-top, sync-live}
 use Rattle.promises.specs.Within.{steps-plan}
@@ -55,7 +55,7 @@ unfolding mountSteps
 mount-can card p m K few =
     let g = geoOf (sec card) in
     let pos : 0 < geoOf (sec card) .s = omega (arith, limits (geoOf (sec card)) (K .calm .is .ok) .sLow) in
-    let wd = sec-in (setCount (countOf (sec card) + 1) card) (geoOf (sec card) .s) 0 (up-length card p m K few) pos in
+    let wd = sec-in (setCount (countOf (sec card) + 1) card) (geoOf (sec card) .s) 0 (up-length card (K .calm .is .ok) (K .calm .is .sized) few) pos in
     can-write (geoOf (sec card) .s) 0 _ (settle ∷ []) p card pos wd (top-can (geoOf (sec card) .s) p card (K .calm .is .sized) (K .top))
     (λ C. can-settle (geoOf (sec card) .s) [] _ _ C
     (can-nil (geoOf (sec card) .s) _ _ (record { sized = C .sized; held = λ j. here wd pos j (ℕ-discrete j 0) })))

@@ -16,6 +16,7 @@ use Rattle.promises.specs.PlainList.{Item, lookup, shownBy}
 use Rattle.promises.specs.PlainCalls.{plainGet}
 use Rattle.promises.specs.ShownProved.{card-shows}
 use Rattle.promises.specs.History.{Reads}
+use Rattle.promises.specs.ListLaws.{differ}
 
 -- ---- members of a list whose names are good and differ
 
@@ -26,9 +27,6 @@ member-good : (x : Item) (l : List Item) → List·Memᴰ x l → every goodItem
 unfolding every
 member-good x (y ∷ l) (List·Memᴰ·head e) h = rw e (both (goodItem y) (every goodItem l) h .0)
 member-good x (y ∷ l) (List·Memᴰ·tail m) h = member-good x l m (both (goodItem y) (every goodItem l) h .1)
-
-abbrev differ : Item → Item → Bool
-differ x y = not (eqList (x .name) (y .name))
 
 member-differs : (x y : Item) (l : List Item) → List·Memᴰ x l → every (differ y) l ≡ true → eqList (x .name) (y .name) ≡ true → ⊥
 unfolding every

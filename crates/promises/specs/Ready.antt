@@ -10,7 +10,6 @@ use Rattle.words.specs.Lists.{pad}
 use Rattle.words.specs.Bytes.{wordAt}
 use Rattle.words.specs.EveryLaws.{every-at}
 use Rattle.sectors.specs.Sectors.{Cells, sec}
-use Rattle.sectors.specs.FlatLaws.{sec-in}
 use Rattle.counts.specs.declared.Stamp.{Stamp}
 use Rattle.counts.specs.declared.Standing.{Standing}
 use Rattle.counts.specs.Geometry.{gN, gF, tableOf}
@@ -22,7 +21,7 @@ use Rattle.entries.specs.Entries.{nameBytes, entryOf, entryBytes, shown, isAbse
 use Rattle.entries.specs.PassLaws.{Passes}
 use Rattle.entries.specs.ChangeLaws.{GoodVersion, bytes-length}
 use Rattle.directory.specs.Directory.{sectorEntries, entriesOf, spotOf}
-use Rattle.directory.specs.SpotLaws.{SpotOk, at-spot, wide-at}
+use Rattle.directory.specs.SpotLaws.{SpotOk, at-spot}
 use Rattle.apages.specs.declared.Index.{Index}
 use Rattle.apages.specs.Index.{indexOf, indexIn, shownPage, changedIndex, pageBefore}
 use Rattle.apages.specs.PassLaws.{IndexPasses, index-inv}
@@ -33,7 +32,7 @@ use Rattle.card.specs.SoundLaws.{View, view-inv, entry-passes, view-page}
 use Rattle.session.specs.declared.Opened.{Opened}
 use Rattle.session.specs.Fits.{stampAtMost, entryAtMost}
 use Rattle.session.specs.FitLaws.{Fit, fit-table, word-live, present-live, at-most}
-use Rattle.promises.specs.Idx.{between, before-shown}
+use Rattle.apages.specs.IndexViews.{between, before-shown}
 
 -- the session's stamp, the present table, and the entry that the change works on
 abbrev pub ownOf : Opened → Stamp
@@ -127,9 +126,6 @@ module _ (s : Opened) (j a k : ℕ) (v : Version) (work n d : List ℕ) (k₀ : 
 
   pub in-card : spotOf (s .geo) j .sector < s .geo .s
   in-card = omega (arith, spot .high, lim s work (R .fit) (R .live) .sLow)
-
-  pub entry-wide : length (entryAt s j work) ≡ 128
-  entry-wide = rw spot-is (wide-at _ (spotOf (s .geo) j .slot) [] (sec-in work (s .geo .s) _ (R .fit .sized) in-card) (spot .four))
 
   pub inCut : Passes (s .geo) (gN (s .geo)) (tcOf s work) (entryAt s j work)
   inCut = entry-passes (s .geo) (gN (s .geo)) (tcOf s work) (sec work) j [] (cut s work (R .fit) (R .live)) (R .below)

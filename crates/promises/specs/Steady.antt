@@ -9,11 +9,12 @@ use Rattle.sectors.specs.Sectors.{sec, applySteps}
 use Rattle.counts.specs.declared.Geo.{Geo}
 use Rattle.counts.specs.Geometry.{gN, geoOk, geoOf, countOf}
 use Rattle.card.specs.Plan.{Plan, doIt, ended, refused, Changed}
-use Rattle.card.specs.PlanLaws.{Num, no!, go!, guard-num}
+use Rattle.card.specs.PlanLaws.{Num, go!, guard-num, passing}
 use Rattle.card.specs.Sound.{shapeOk, sound}
 use Rattle.card.specs.Make.{freshCard, make}
 use Rattle.card.specs.FreshLaws.{fresh-empty}
 use Rattle.card.specs.Reading.{filesIn, filesShown}
+use Rattle.card.specs.SoundLaws.{shape-inv}
 use Rattle.session.specs.declared.Opened.{Opened}
 use Rattle.session.specs.declared.Session.{Session}
 use Rattle.session.specs.declared.Session.the-variants.{Closed, Open}
@@ -22,6 +23,7 @@ use Rattle.store.specs.Steps.{mountSteps, syncWork, atTop}
 use Rattle.store.specs.Mount.{Ended, openedFrom, mountDone, mount}
 use Rattle.store.specs.Edit.{put, remove}
 use Rattle.store.specs.Sync.{land, grown, syncDone, sync, unmount}
+use Rattle.store.specs.StepLaws.{mount-bump}
 use Rattle.promises.specs.PlainList.{items, shownBy, shownIn}
 use Rattle.promises.specs.History.{World, makeC, syncC, unmountC, putC, removeC, landC, byNumber, edited, stepped, after, Reach, call}
 use Rattle.promises.specs.Items.{bump-items}
@@ -31,7 +33,7 @@ use Rattle.promises.specs.Synced.{sync-shows}
 use Rattle.promises.specs.Demand.{card-possible}
 use Rattle.promises.specs.FitCalm.{rest-shows}
 use Rattle.promises.specs.FitAll.{sync-rest}
-use Rattle.promises.specs.FitMount.{mount-rest, mount-up, mount-bump, opened-is, atWord}
+use Rattle.promises.specs.FitMount.{mount-rest, mount-up, opened-is, atWord}
 use Rattle.promises.specs.FitHistory.{mount-good}
 
 -- ---- the statement
@@ -112,9 +114,7 @@ unmount-shows w r h = card-possible (after unmountC w) (call r unmountC) .1 .sho
 -- a plan that comes to 0 goes through
 through : {A : Type 0} (num : A → ℕ) (P : A → Type 0) (f : ℕ → A) (h : ℕ → ℕ → A) → ((k : ℕ) → num (f k) ≡ k) → {p : Plan} → Num p → ((j a : ℕ) → p ≡ doIt j a → P (h j a))
     → num (ended p f h) ≡ 0 → P (ended p f h)
-unfolding ended
-through num P f h e (no! k) q z = absurd (omega (arith, e (suc k)))
-through num P f h e (go! j a) q z = q j a refl
+through num P f h e p q = passing (λ r. num r ≡ 0 → P r) f h p (λ k z. absurd (omega (arith, e (suc k)))) (λ j a d z. q j a d)
 
 pub make-shows : MakeShows
 unfolding make refused
@@ -138,7 +138,7 @@ mount-done : (card : List ℕ) → shapeOk card ≡ true → sound card ≡ true
 unfolding sound shownBy filesShown
 mount-done card x y few =
     rw (mount-up card x y few, opened-is card)
-    (rest-shows (atWord card) _ (mount-rest card x y few) false ∙ bump-items (geoOf (sec card)) card _ (mount-bump card x y few) y)
+    (rest-shows (atWord card) _ (mount-rest card x y few) false ∙ bump-items (geoOf (sec card)) card _ (mount-bump card (shape-inv card x .0) (shape-inv card x .1) few) y)
 
 pub mount-shows : MountShows
 unfolding mount refused
@@ -149,7 +149,7 @@ mount-shows card work h =
 cut-done : (card : List ℕ) → shapeOk card ≡ true → sound card ≡ true → countOf (sec card) < gN (geoOf (sec card))
     → items (applySteps (mountSteps card) card) (filesIn (geoOf (sec card)) (sec (applySteps (mountSteps card) card))) ≡ shownBy card
 unfolding sound shownBy filesShown
-cut-done card x y few = rw (mount-up card x y few) (bump-items (geoOf (sec card)) card _ (mount-bump card x y few) y)
+cut-done card x y few = rw (mount-up card x y few) (bump-items (geoOf (sec card)) card _ (mount-bump card (shape-inv card x .0) (shape-inv card x .1) few) y)
 
 pub mount-cut : MountCut
 unfolding mount refused

@@ -15,7 +15,7 @@ use Rattle.counts.specs.declared.Geo.{Geo}
 use Rattle.counts.specs.Geometry.{geoOk, geoOf}
 use Rattle.apages.specs.PageLaws.{setSec-own}
 use Rattle.card.specs.Plan.{Plan, doIt, ended, refused, done, Changed}
-use Rattle.card.specs.PlanLaws.{guard-inv, Num, no!, go!, guard-num}
+use Rattle.card.specs.PlanLaws.{guard-inv, Num, go!, guard-num, passing}
 use Rattle.card.specs.Sound.{shapeOk, sound}
 use Rattle.card.specs.SoundLaws.{shape-inv}
 use Rattle.card.specs.Make.{freshCard, makePlan, make}
@@ -28,11 +28,11 @@ use Rattle.session.specs.Fits.{fits}
 use Rattle.session.specs.FitLaws.{Fit, fit-inv}
 use Rattle.store.specs.Edit.{put, remove}
 use Rattle.store.specs.Sync.{bothPlan, land}
+use Rattle.store.specs.EditPlans.{put-inv, put-num, remove-inv, remove-num}
 use Rattle.promises.specs.PlainList.{Item, shownBy}
 use Rattle.promises.specs.History.{Pending, newest, allWritten, World, afterCut, byNumber, edited, makeC, putC, removeC, landC, after}
 use Rattle.promises.specs.Keep.{Keeps}
 use Rattle.promises.specs.Ready.{ownOf}
-use Rattle.promises.specs.Spots.{put-inv, put-num, remove-inv, remove-num}
 use Rattle.promises.specs.Base.{Kept, put-left, remove-left}
 use Rattle.promises.specs.Play.{mem-cases, top-mem}
 use Rattle.promises.specs.State.{good-rests, Live}
@@ -43,9 +43,8 @@ use Rattle.promises.specs.Inv.{Worn, OpenInv, InvOf, Inv, mk}
 pub by-plan : {A : Type 0} (number : A → ℕ) (P : World → Type 0) (w : World) (stop : ℕ → A) (on : ℕ → ℕ → A) (next : A → World) {pl : Plan}
     → ((k : ℕ) → number (stop k) ≡ k) → Num pl → P w → ((j a : ℕ) → pl ≡ doIt j a → P (byNumber (number (on j a)) (next (on j a)) w))
     → P (byNumber (number (ended pl stop on)) (next (ended pl stop on)) w)
-unfolding ended byNumber
-by-plan number P w stop on next e (no! k) h f = rw (e (suc k)) h
-by-plan number P w stop on next e (go! j a) h f = f j a refl
+unfolding byNumber
+by-plan number P w stop on next e q h f = passing (λ r. P (byNumber (number r) (next r) w)) stop on q (λ k. rw (e (suc k)) h) f
 
 pub both-inv : (s : Opened) (card work : List ℕ) (pl : Plan) {j a : ℕ} → bothPlan s card work pl ≡ doIt j a → (fits s work ≡ true) × (pl ≡ doIt j a)
 unfolding bothPlan

@@ -4,7 +4,7 @@ use mathlib.Core.Bool.{Bool, true, false}
 use mathlib.Core.List.{List, [], _++_}
 use mathlib.Core.Option.{none, some}
 use mathlib.Core.Logic.{⊎-elim}
-use Prim.Native.Nat.{ℕ, suc, _*_, _≤_, _<_}
+use Prim.Native.Nat.{ℕ, suc, _*_, _≤_}
 use native.Mathlib.Omega.{arith}
 use borrow.Author.Tests.{eq-eqb, le-leb}
 use lib.Dec.{leb}
@@ -15,16 +15,14 @@ use Rattle.words.specs.Lists.{every, pairwise, firstAt, splice}
 use Rattle.words.specs.EveryLaws.{every-all}
 use Rattle.words.specs.FirstLaws.{found-at}
 use Rattle.sectors.specs.Sectors.{sec}
-use Rattle.sectors.specs.FlatLaws.{sec-in}
 use Rattle.counts.specs.declared.Geo.{Geo}
 use Rattle.counts.specs.Geometry.{geoOk}
-use Rattle.counts.specs.GeoLaws.{limits}
 use Rattle.entries.specs.declared.Version.{Version}
 use Rattle.entries.specs.declared.Version.the-variants.{Absent, Present}
 use Rattle.entries.specs.Entries.{shown, goodName}
 use Rattle.entries.specs.PassLaws.{Passes, shown-run}
-use Rattle.directory.specs.Directory.{entriesOf, spotOf, apart, named}
-use Rattle.directory.specs.SpotLaws.{wide-at, at-spot}
+use Rattle.directory.specs.Directory.{entriesOf, apart, named}
+use Rattle.directory.specs.SpotLaws.{entry-wide}
 use Rattle.directory.specs.NameLaws.{named-true}
 use Rattle.card.specs.declared.Line.{Line}
 use Rattle.card.specs.Plan.{Plan, guard, need, ended, doIt, refused, done, Got}
@@ -37,12 +35,6 @@ use Rattle.promises.specs.ListLaws.{isWide, content-length, listOf, list
 pub lines-length : {xs : List Item} {ls : List Line} → Lines xs ls → length xs ≡ length ls
 lines-length none-left = refl
 lines-length (one-more t r) = ap suc (lines-length r)
-
--- every entry of an image of the right length has 128 bytes
-pub entry-wide : (g : Geo) (img : List ℕ) → geoOk g ≡ true → length img ≡ 512 * g .s → (j : ℕ) → j < length (entriesOf g (sec img)) → length (getD (entriesOf g (sec img)) j []) ≡ 128
-entry-wide g img ok l j h =
-    let (S, e) = at-spot g (sec img) j [] h in
-    ap length e ∙ wide-at (sec img (spotOf g j .sector)) (spotOf g j .slot) [] (sec-in img (g .s) (spotOf g j .sector) l (omega (arith, S .high, limits g ok .sLow))) (S .four)
 
 pub all-wide : (g : Geo) (img : List ℕ) → geoOk g ≡ true → length img ≡ 512 * g .s → every isWide (entriesOf g (sec img)) ≡ true
 all-wide g img ok l = every-all isWide (entriesOf g (sec img)) [] (λ j h. eq-eqb _ _ (entry-wide g img ok l j h))

@@ -9,7 +9,7 @@ use Rattle.sectors.specs.Sectors.{sec, Step}
 use Rattle.counts.specs.declared.Geo.{Geo}
 use Rattle.counts.specs.Geometry.{gN, geoOf, countOf}
 use Rattle.card.specs.Plan.{Plan, doIt, ended, refused, done}
-use Rattle.card.specs.PlanLaws.{Num, no!, go!, guard-num}
+use Rattle.card.specs.PlanLaws.{Num, go!, guard-num, passing}
 use Rattle.session.specs.declared.Opened.{Opened}
 use Rattle.session.specs.declared.Session.{Session}
 use Rattle.session.specs.declared.Session.the-variants.{Closed, Open}
@@ -32,9 +32,8 @@ use Rattle.promises.specs.StepAll.{mount-num, mount-few, own-geo, not-to
 pub steps-plan : {A : Type 0} (number : A → ℕ) (Q : List Step → Type 0) (stop : ℕ → A) (on : ℕ → ℕ → A) (steps : List Step) {pl : Plan}
     → ((k : ℕ) → number (stop k) ≡ k) → Num pl → Q [] → ((j a : ℕ) → pl ≡ doIt j a → Q (byNumber (number (on j a)) steps []))
     → Q (byNumber (number (ended pl stop on)) steps [])
-unfolding ended byNumber
-steps-plan number Q stop on steps e (no! k) h f = rw (e (suc k)) h
-steps-plan number Q stop on steps e (go! j a) h f = f j a refl
+unfolding byNumber
+steps-plan number Q stop on steps e q h f = passing (λ r. Q (byNumber (number r) steps [])) stop on q (λ k. rw (e (suc k)) h) f
 
 -- ---- mount
 

@@ -1,11 +1,11 @@
 -- A card that is read with number 0 has the right shape and is sound. Assumes nothing.
-use mathlib.Core.Path.{_≡_, refl, sym, ap, _∙_}
+use mathlib.Core.Path.{_≡_, refl, ap, _∙_}
 use mathlib.Core.Bool.{Bool, true, false}
 use mathlib.Core.List.{List}
 use Prim.Native.Nat.{ℕ}
 use native.Mathlib.Omega.{arith}
 use Rattle.card.specs.declared.Report.{Report}
-use Rattle.card.specs.Plan.{guard, ended, doIt}
+use Rattle.card.specs.Plan.{guard, ended}
 use Rattle.card.specs.Sound.{shapeOk, sound}
 use Rattle.card.specs.Reading.{readPlan, read}
 

@@ -1,7 +1,7 @@
 // When names, versions and entries keep their rules.
 ghost use mathlib.Core.Path.{_≡_};
 ghost use Prim.Native.Nat.{_+_, min};
-ghost use lib.ListN.{length, take};
+ghost use lib.ListN.{length};
 ghost use Rattle.words.specs.Lists.{every, eqList};
 ghost use Rattle.words.specs.Bytes.{wordAt};
 ghost use Rattle.sectors.specs.Sectors.{sec};

@@ -1,25 +1,24 @@
 -- The fit test's parts as code computes them. Assumes nothing.
 use mathlib.Core.Path.{_≡_, refl, sym, ap, _∙_}
-use mathlib.Core.Bool.{Bool, true, false, cond, not, _&&_}
-use mathlib.Core.List.{List, [], _∷_}
-use Prim.Native.Nat.{ℕ, zero, suc, _+_, _-_, _*_, _≤_, _<_}
-use native.Mathlib.Nat.{suc-add, zero-add}
+use mathlib.Core.Bool.{Bool, true, false, not, _&&_}
+use mathlib.Core.List.{List}
+use Prim.Native.Nat.{ℕ, _+_, _-_, _*_, _≤_}
 use native.Mathlib.Omega.{arith}
 use borrow.Author.Tests.{not-true, not-false, eqb-true}
 use lib.Dec.{leb, ltb, eqb}
 use lib.ListN.{length, take, drop, getD}
-use lib.Seq.{take-nil, drop-nil, set-out}
 use Rattle.words.specs.Lists.{every, pairwise, isZero, part}
 use Rattle.words.specs.Bytes.{wordAt}
 use Rattle.words.specs.BoolLaws.{both}
 use Rattle.words.specs.WordLaws.{word-part}
+use Rattle.words.specs.PartLaws.{drop-take}
 use Rattle.sectors.specs.Sectors.{Cells, sec}
 use Rattle.sectors.specs.SectorLaws.{sec-part}
 use Rattle.counts.specs.declared.Geo.{Geo}
 use Rattle.counts.specs.declared.View.{View}
 use Rattle.counts.specs.Geometry.{gN, geoOk, geoOf, countOf, tableOf}
 use Rattle.counts.specs.Stamps.{maxTx, wordMax, asIs, tableIn}
-use Rattle.counts.specs.TableLaws.{LaidOut, table-length, ok-laid}
+use Rattle.counts.specs.TableLaws.{LaidOut, ok-laid, as-is}
 use Rattle.directory.specs.Directory.{entriesOf, apart}
 use Rattle.apages.specs.Index.{indexIn}
 use Rattle.card.specs.Sound.{viewOk}
@@ -61,12 +60,6 @@ parts s k =
     (every isZero (drop (s .c .0 + 1) (cutTable s k))) (viewOk (s .geo) (s .c .0) (presentTable s k) k) (viewOk (s .geo) (gN (s .geo)) (cutTable s k) k)
     (pairwise (apart (presentTable s k) (cutTable s k)) (entriesOf (s .geo) k)) (every (entryAtMost s) (entriesOf (s .geo) k)) (entryAtMost s (indexIn (s .geo) k))
 
--- what stands in a front part from n on
-drop-take : (n m : ℕ) (l : List ℕ) → drop n (take (n + m) l) ≡ take m (drop n l)
-drop-take zero m l = rw zero-add
-drop-take (suc n) m [] = rw (suc-add, take-nil, drop-nil)
-drop-take (suc n) m (x ∷ l) = rw suc-add (drop-take n m l)
-
 -- sector 0, read word by word
 pub head-here : (s : Opened) (work : List ℕ) {n : ℕ} {h : Geo} {z : Bool} → 512 ≤ length work → n ≡ wordAt work 0 → h ≡ geoOf (sec work)
     → z ≡ every isZero (take (512 - 16) (drop 16 work))
@@ -92,11 +85,6 @@ view-worn s e h = h ∙ rw e
 pub view-open : (s : Opened) → s .worn ≡ false → record { c = s .c; t = s .t } ≡ presentView s
 unfolding presentView
 view-open s e = rw e
-
--- the view that takes the table as it is
-as-is : (g : Geo) (img : List ℕ) → LaidOut g img → tableIn g (asIs g) (sec img) ≡ tableOf g (sec img)
-unfolding tableIn asIs gN
-as-is g img l = set-out (tableOf g (sec img)) (128 * g .t) 0 (omega (arith, table-length g img (omega (arith, l .room))))
 
 -- both views as code asks for them
 pub views-here : (s : Opened) (work : List ℕ) → LaidOut (s .geo) work → {p k : View} {a b n : Bool} → p ≡ presentView s → k ≡ asIs (s .geo)

@@ -6,10 +6,9 @@ use lib.ListN.{length, drop, getD}
 use lib.Dec.{leb, ltb, eqb}
 use Rattle.words.specs.Lists.{every, pairwise, isZero}
 use Rattle.sectors.specs.Sectors.{Cells, sec}
-use Rattle.counts.specs.declared.Geo.{Geo}
 use Rattle.counts.specs.declared.Stamp.{Stamp}
 use Rattle.counts.specs.Geometry.{gN, geoOk, geoOf, countOf}
-use Rattle.counts.specs.Stamps.{maxTx, wordMax, stampOf, alive}
+use Rattle.counts.specs.Stamps.{maxTx, wordMax, stampOf}
 use Rattle.directory.specs.Directory.{entriesOf, apart}
 use Rattle.apages.specs.Index.{indexIn}
 use Rattle.card.specs.Sound.{viewOk}

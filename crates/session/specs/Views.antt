@@ -1,5 +1,5 @@
 -- "A session": its stamp (c, t), and its two views. Assumes nothing.
-use mathlib.Core.Bool.{Bool, true, false, cond}
+use mathlib.Core.Bool.{cond}
 use mathlib.Core.List.{List, []}
 use Prim.Native.Nat.{ℕ}
 use Rattle.sectors.specs.Sectors.{Cells, sec}

@@ -16,7 +16,7 @@ use Rattle.session.specs.declared.Session.{Session}
 use Rattle.session.specs.declared.Session.the-variants.{Closed, Open}
 use Rattle.session.specs.Fits.{fits}
 use Rattle.store.specs.Mount.{Ended, mountPlan, openedFrom, mountDone, mount}
-use Rattle.store.specs.Sync.{bothPlan, land, sync, unmount}
+use Rattle.store.specs.Sync.{bothPlan, land}
 use Rattle.store.specs.CallLaws.{Leaves, leaves, guard-no, guard-yes}
 
 abbrev pub Ends : Ended → Answer → Session → List ℕ → List ℕ → Type 0

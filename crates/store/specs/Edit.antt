@@ -1,6 +1,6 @@
 -- put: "4, 2, 9, 5, 7, 8", and remove: "4, 2, 9, 5, 6". Assumes nothing.
-use mathlib.Core.Bool.{Bool, true, false, not}
-use mathlib.Core.List.{List, [], _∷_}
+use mathlib.Core.Bool.{not}
+use mathlib.Core.List.{List, []}
 use Prim.Native.Nat.{ℕ, zero, suc, _*_}
 use lib.ListN.{length, getD}
 use Rattle.words.specs.declared.Found.{Found}

@@ -8,6 +8,8 @@ pub mod EditLaws
 pub mod WriteLaws
 pub mod ViewLaws
 pub mod SyncLaws
+pub mod PlaceLaws
+pub mod EditPlans
 pub mod RoomLaws
 pub mod CallLaws
 pub mod LookLaws

@@ -6,9 +6,8 @@ use Rattle.apages.specs.Bits.{clearBits}
 use Rattle.card.specs.declared.Answer.{Answer}
 use Rattle.card.specs.declared.Line.{Line}
 use Rattle.card.specs.declared.Lined.{Lined}
-use Rattle.card.specs.Plan.{Plan, guard, ended, doIt, refused, done, Got, Listed}
+use Rattle.card.specs.Plan.{guard, ended, doIt, refused, done, Got, Listed}
 use Rattle.card.specs.Files.{getPlan, getEnd, listPlan, listEnd, noLine, lineEnd}
-use Rattle.session.specs.declared.Opened.{Opened}
 use Rattle.session.specs.declared.Session.{Session}
 use Rattle.session.specs.declared.Session.the-variants.{Closed, Open}
 use Rattle.session.specs.Views.{presentTable, presentPage, presentFiles}

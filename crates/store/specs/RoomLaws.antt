@@ -1,16 +1,12 @@
 -- What put's searches found lies where a change may go: the entry in the directory, the run inside the data. Assumes nothing.
 use mathlib.Core.Path.{_≡_, refl, sym, _∙_}
-use mathlib.Core.Bool.{Bool, true}
+use mathlib.Core.Bool.{true}
 use mathlib.Core.List.{List, []}
 use Prim.Native.Nat.{ℕ, zero, suc, _+_, _-_, _*_, _≤_, _<_}
 use native.Mathlib.Omega.{arith}
-use borrow.Author.Tests.{leb-true}
-use lib.Dec.{leb}
 use lib.ListN.{length}
-use Rattle.words.specs.declared.Found.{Found}
-use Rattle.words.specs.declared.Found.the-variants.{At, Nowhere}
-use Rattle.words.specs.Lists.{every, firstAt}
-use Rattle.words.specs.BoolLaws.{both}
+use Rattle.words.specs.declared.Found.the-variants.{At}
+use Rattle.words.specs.Lists.{firstAt}
 use Rattle.words.specs.FirstLaws.{at-one, found-at}
 use Rattle.sectors.specs.Sectors.{sec}
 use Rattle.counts.specs.declared.Geo.{Geo}
@@ -19,48 +15,31 @@ use Rattle.counts.specs.GeoLaws.{Limits, limits}
 use Rattle.entries.specs.declared.Run.{Run}
 use Rattle.entries.specs.declared.Version.{Version}
 use Rattle.entries.specs.declared.Version.the-variants.{Absent, Present}
-use Rattle.entries.specs.Entries.{goodByte, goodName, sectorsFor}
-use Rattle.entries.specs.PassLaws.{RunIs, run-room, shown-run}
-use Rattle.directory.specs.Directory.{entriesOf, gone, named}
+use Rattle.entries.specs.Entries.{goodName, sectorsFor}
+use Rattle.entries.specs.PassLaws.{RunIs, run-room, shown-run, short-name}
+use Rattle.directory.specs.Directory.{entriesOf, named}
 use Rattle.directory.specs.DirectoryLaws.{entries-length, entries-lt}
 use Rattle.apages.specs.Bits.{bitAt}
 use Rattle.apages.specs.Runs.{runFor}
 use Rattle.apages.specs.LowestLaws.{run-found, run-for-some}
-use Rattle.card.specs.Files.{filesOf, runOf, runAt}
-use Rattle.card.specs.FileLaws.{files-within}
-use Rattle.card.specs.BitmapLaws.{InData, in-data}
-use Rattle.card.specs.SpaceLaws.{bit-out, page-wide}
+use Rattle.card.specs.Files.{runOf, runAt}
+use Rattle.card.specs.BitmapLaws.{InData}
+use Rattle.card.specs.SpaceLaws.{page-wide, clear-bit}
 use Rattle.card.specs.SoundLaws.{View, view-inv, entry-passes}
 use Rattle.session.specs.declared.Opened.{Opened}
 use Rattle.session.specs.Views.{presentTable, cutTable, presentPage, cutPage}
 use Rattle.session.specs.Fits.{fits}
 use Rattle.session.specs.FitLaws.{Fit, fit-inv}
-use Rattle.store.specs.Edit.{orElse, putPlace, placeIn, runIn}
+use Rattle.store.specs.Edit.{placeIn, runIn}
 use Rattle.store.specs.ViewLaws.{fit-laid, fit-pair}
 use Rattle.store.specs.EditLaws.{CanEdit}
-
--- either search finds an entry of the list
-either-below : (f g : List ℕ → Bool) (ps : List (List ℕ)) (r : Found) (j : ℕ) → firstAt f 0 ps ≡ r → orElse r (firstAt g 0 ps) ≡ At j → j < length ps
-unfolding orElse
-either-below f g ps (At i) j e h = found-at f [] ps j (e ∙ h) .0
-either-below f g ps Nowhere j e h = found-at g [] ps j h .0
-
--- the entry that put uses is one of the directory
-place-below : (s : Opened) (work n : List ℕ) (j : ℕ) → placeIn s work n ≡ At j → j < 4 * s .geo .d
-unfolding placeIn putPlace
-place-below s work n j h =
-    omega
-    (arith, entries-length (s .geo) work, either-below (named (presentTable s (sec work)) (cutTable s (sec work)) n) (gone (presentTable s (sec work)) (cutTable s (sec work))) (entriesOf (s .geo) (sec work)) _ j refl h)
+use Rattle.store.specs.PlaceLaws.{place-named}
 
 -- the sectors of a version, where its run passes
 version-room : (g : Geo) (v : Version) → ((r : Run) → v ≡ Present r → RunIs g r) → runOf v .start .0 + runOf v .sectors ≤ g .s
 unfolding runOf
 version-room g Absent h = omega arith
 version-room g (Present r) h = run-room g r (h r refl)
-
-short-name : (n : List ℕ) → goodName n ≡ true → length n ≤ 32
-unfolding goodName
-short-name n h = leb-true _ _ (both (leb 1 (length n)) _ (both _ (every goodByte n) h .0) .1)
 
 module _ (s : Opened) (work : List ℕ) (F : Fit s work) where
   L : Limits (s .geo)
@@ -75,41 +54,36 @@ module _ (s : Opened) (work : List ℕ) (F : Fit s work) where
   pres : View (s .geo) (s .c .0) (presentTable s (sec work)) (sec work)
   pres = view-inv (s .geo) (s .c .0) (presentTable s (sec work)) (sec work) (F .presView)
 
-  present-wide : length p ≡ 512
+  pub present-wide : length p ≡ 512
   unfolding presentPage
   present-wide = page-wide (s .geo) (s .c .0) (presentTable s (sec work)) work (F .shape) (F .sized) pres
 
-  cut-wide : length q ≡ 512
+  pub cut-wide : length q ≡ 512
   unfolding cutPage cutTable
   cut-wide =
       page-wide (s .geo) (gN (s .geo)) (tableOf (s .geo) (sec work)) work (F .shape) (F .sized)
       (view-inv (s .geo) (gN (s .geo)) (tableOf (s .geo) (sec work)) (sec work) (F .cutView))
 
-  -- a sector whose bit is clear in the present view is one of the data
-  clear-data : (n : ℕ) → n < 4096 → bitAt p n ≡ 0 → InData (s .geo) n
-  unfolding presentPage
-  clear-data n l z = go (in-data (s .geo) n)
-    where
-      go : Dec (InData (s .geo) n) → InData (s .geo) n
-      go (yes h) = h
-      go (no o) =
-          absurd
-          (omega
-          (arith, bit-out (s .geo) (F .shape) (filesOf (presentTable s (sec work)) (entriesOf (s .geo) (sec work))) p present-wide (files-within (s .geo) (s .c .0) (presentTable s (sec work)) (entriesOf (s .geo) (sec work)) (pres .entries)) (pres .page) n l o))
+  pub alike : length p ≡ length q
+  alike = present-wide ∙ sym cut-wide
 
-  -- the run that was found lies inside the data
-  run-data : (k a : ℕ) → 0 < k → runIn s work k ≡ At a → (gF (s .geo) ≤ a) × (a + k ≤ s .geo .s)
+  -- the run that was found lies inside the data, free in both views
+  pub room-in : (k a : ℕ) → 0 < k → runIn s work k ≡ At a
+      → (gF (s .geo) ≤ a) × (a + k ≤ s .geo .s) × ((n : ℕ) → a ≤ n → n < a + k → (bitAt p n ≡ 0) × (bitAt q n ≡ 0))
   unfolding runIn
-  run-data k a h e =
-      let (r, f) = run-found k p q h (present-wide ∙ sym cut-wide) a (sym (run-for-some k p q (λ z. omega arith)) ∙ e) in
-      let u = clear-data a (omega (arith, present-wide)) (f a (omega arith) (omega arith) .0) in
-      let v = clear-data (a + k - 1) (omega (arith, present-wide)) (f (a + k - 1) (omega arith) (omega arith) .0) in
-      (u .0, omega (arith, v .1))
+  room-in k a h e =
+      let (r, f) = run-found k p q h alike a (sym (run-for-some k p q (λ z. omega arith)) ∙ e) in
+      let u = in-the-data a (omega (arith, present-wide)) (f a (omega arith) (omega arith) .0) in
+      let v = in-the-data (a + k - 1) (omega (arith, present-wide)) (f (a + k - 1) (omega arith) (omega arith) .0) in
+      (u .0, omega (arith, v .1), f)
+    where
+      in-the-data : (n : ℕ) → n < 4096 → bitAt p n ≡ 0 → InData (s .geo) n
+      in-the-data n l z = clear-bit (s .geo) (s .c .0) (presentTable s (sec work)) (sec work) (F .shape) pres (unfold presentPage in present-wide) n l (unfold presentPage in z) .0
 
   run-room-in : (k a : ℕ) → runIn s work k ≡ At a → a + k ≤ s .geo .s
   unfolding runIn runFor
   run-room-in zero a e = omega (arith, at-one e)
-  run-room-in (suc k) a e = run-data (suc k) a (omega arith) e .1
+  run-room-in (suc k) a e = room-in (suc k) a (omega arith) e .1
 
   -- the sectors that entry j's file holds in the present view
   earlier-room : (j : ℕ) → j < 4 * s .geo .d
@@ -119,13 +93,20 @@ module _ (s : Opened) (work : List ℕ) (F : Fit s work) where
       let P = entry-passes (s .geo) (s .c .0) (presentTable s (sec work)) (sec work) j [] pres (entries-lt (s .geo) work j h) in
       version-room (s .geo) _ (λ r e. shown-run (s .geo) (presentTable s (sec work)) _ (P .wf) e)
 
+  -- the entry that put uses is one of the directory
+  place-below : (n : List ℕ) (j : ℕ) → placeIn s work n ≡ At j → j < 4 * s .geo .d
+  unfolding placeIn
+  place-below n j h =
+      omega
+      (arith, entries-length (s .geo) work, place-named (presentTable s (sec work)) (cutTable s (sec work)) n (entriesOf (s .geo) (sec work)) j h .below)
+
   -- what put's tests showed is what its change asks
   put-able : (j a k : ℕ) (n d : List ℕ) → fits s work ≡ true → goodName n ≡ true → placeIn s work n ≡ At j → runIn s work k ≡ At a → k ≡ sectorsFor (length d)
       → CanEdit s work j a k n d
   unfolding sectorsFor gF
   put-able j a k n d f g p r e =
       let room = run-room-in k a r in
-      let below = place-below s work n j p in
+      let below = place-below n j p in
       record {
         laid = fit-laid s work f;
         pair = fit-pair s work f;
@@ -134,7 +115,7 @@ module _ (s : Opened) (work : List ℕ) (F : Fit s work) where
         enough = omega (arith, e);
         top = omega (arith, L .sHigh);
         room = omega (arith, F .sized);
-        inside = λ h. run-data k a h r .0;
+        inside = λ h. room-in k a h r .0;
         earlier = omega (arith, earlier-room j below, L .sHigh);
       }
 

@@ -16,8 +16,9 @@ use Rattle.sectors.specs.Sectors.{sec}
 use Rattle.sectors.specs.FlatLaws.{sec-in, inside-here, inside-other}
 use Rattle.counts.specs.declared.Geo.{Geo}
 use Rattle.counts.specs.Geometry.{gN, geoOk, geoOf, countOf, tableOf}
-use Rattle.counts.specs.GeoLaws.{geo-eq}
+use Rattle.counts.specs.GeoLaws.{geo-eq, limits}
 use Rattle.counts.specs.TableLaws.{LaidOut, ok-laid, table-length, table-at}
+use Rattle.card.specs.AgreeLaws.{Bump}
 use Rattle.store.specs.Steps.{setCount, setWord, tableSector}
 
 -- ---- the count
@@ -51,6 +52,32 @@ module _ (C S : ℕ) (img : List ℕ) (small : C < 2 ^ 32) (l : length img ≡ 5
 
   pub count-tail : drop 16 (sec (setCount C img) 0) ≡ drop 16 (sec img 0)
   count-tail = ap (drop 16) count-here ∙ drop-after (sec img 0) 0 (wordBytes C) 16 (omega (arith, wordBytes-length C))
+
+-- mount's step: the count goes up, and nothing else changes
+module _ (card : List ℕ) (ok : geoOk (geoOf (sec card)) ≡ true) (l : length card ≡ 512 * geoOf (sec card) .s) (few : countOf (sec card) < gN (geoOf (sec card))) where
+  abbrev up : List ℕ
+  up = setCount (countOf (sec card) + 1) card
+
+  some : 0 < geoOf (sec card) .s
+  some = omega (arith, limits (geoOf (sec card)) ok .sLow)
+
+  next-small : countOf (sec card) + 1 < 2 ^ 32
+  unfolding gN
+  next-small = omega (arith, few, limits (geoOf (sec card)) ok .tHigh)
+
+  pub up-length : length up ≡ 512 * geoOf (sec card) .s
+  up-length = count-length (countOf (sec card) + 1) (geoOf (sec card) .s) card next-small l some
+
+  pub up-geo : geoOf (sec up) ≡ geoOf (sec card)
+  up-geo = count-geo (countOf (sec card) + 1) (geoOf (sec card) .s) card next-small l some
+
+  pub mount-bump : Bump (sec card) (sec up)
+  mount-bump =
+      record {
+        count = count-count (countOf (sec card) + 1) (geoOf (sec card) .s) card next-small l some;
+        tail = count-tail (countOf (sec card) + 1) (geoOf (sec card) .s) card next-small l some;
+        other = count-other (countOf (sec card) + 1) (geoOf (sec card) .s) card next-small l some;
+      }
 
 -- ---- a word of the table
 

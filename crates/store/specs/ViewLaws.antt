@@ -6,7 +6,6 @@ use mathlib.Core.List.{List, []}
 use Prim.Native.Nat.{ℕ, _+_, _*_, _≤_, _<_}
 use native.Mathlib.Omega.{arith}
 use lib.ListN.{length, take, drop, getD}
-use lib.Seq.{set-out}
 use Rattle.words.specs.declared.Found.{Found}
 use Rattle.words.specs.Lists.{firstAt}
 use Rattle.words.specs.Bytes.{wordAt}
@@ -15,13 +14,12 @@ use Rattle.counts.specs.declared.Geo.{Geo}
 use Rattle.counts.specs.declared.Stamp.{Stamp}
 use Rattle.counts.specs.declared.Standing.{Standing}
 use Rattle.counts.specs.declared.View.{View}
-use Rattle.counts.specs.Geometry.{gN, tableOf}
-use Rattle.counts.specs.TableLaws.{LaidOut, ok-laid, table-length}
+use Rattle.counts.specs.TableLaws.{LaidOut, ok-laid, as-is}
 use Rattle.counts.specs.Stamps.{tableIn, asIs, standing}
 use Rattle.entries.specs.declared.Entry.{Entry}
 use Rattle.entries.specs.declared.Run.{Run}
 use Rattle.entries.specs.declared.Version.{Version}
-use Rattle.entries.specs.Entries.{shown, entryOf, changed}
+use Rattle.entries.specs.Entries.{entryOf, changed}
 use Rattle.entries.specs.EntryLaws.{changedAs, changed-as}
 use Rattle.directory.specs.Directory.{entriesOf, gone, named}
 use Rattle.directory.specs.DirectoryLaws.{placeOf, entry-at}
@@ -35,11 +33,6 @@ use Rattle.session.specs.Views.{ownStamp, presentView, presentTable, cutTable, 
 use Rattle.session.specs.Fits.{fits}
 use Rattle.session.specs.FitLaws.{fit-inv}
 use Rattle.store.specs.Edit.{orElse, putPlace, placeIn, runIn}
-
--- the view that takes the table as it is
-pub as-is-table : (g : Geo) (img : List ℕ) → LaidOut g img → tableIn g (asIs g) (sec img) ≡ tableOf g (sec img)
-unfolding tableIn asIs gN
-as-is-table g img laid = set-out _ _ _ (omega (arith, table-length g img laid))
 
 -- ---- what a fit gives
 
@@ -61,7 +54,7 @@ module _ (s : Opened) (work : List ℕ) {v w : View} (ev : v ≡ presentView s) 
 
   cut-is : tableIn (s .geo) w (sec work) ≡ cutTable s (sec work)
   unfolding cutTable
-  cut-is = rw ew (as-is-table (s .geo) work laid)
+  cut-is = rw ew (as-is (s .geo) work laid)
 
   pub place-here : (n : List ℕ) {r : Found}
       → r ≡ firstAt (named (tableIn (s .geo) v (sec work)) (tableIn (s .geo) w (sec work)) n) 0 (entriesOf (s .geo) (sec work))

@@ -10,7 +10,7 @@ use Rattle.counts.specs.Stamps.{tableIn}
 use Rattle.directory.specs.Directory.{entriesOf}
 use Rattle.directory.specs.DirectoryLaws.{entries-lt, entries-le}
 use Rattle.card.specs.Files.{runAt}
-use Rattle.card.specs.BuiltLaws.{fresh-length}
+use Rattle.card.specs.BuiltLaws.{page-length}
 use Rattle.card.specs.MarkLaws.{Marked, marked-none, run-fits, marked-go, marked-stop, marked-end}
 use Rattle.sound.proofs.page_ok.Statement.{statement}
 use Rattle.sound.proofs.page_ok.Tie as tie
@@ -27,7 +27,7 @@ fresh-page-requires c κs = search needs
 loop-holds : tie.Need-loop-holds Inv-loop μ-loop
 loop-holds c =
     let q = c .before .before .before .pre .0 in
-    (search needs, ap length (c .fresh-page .ensures) ∙ fresh-length _, marked-none _ _ _ (record { s = q .s; t = q .t; d = q .d }) (c .fresh-page .ensures))
+    (search needs, ap length (c .fresh-page .ensures) ∙ page-length _, marked-none _ _ _ (record { s = q .s; t = q .t; d = q .d }) (c .fresh-page .ensures))
 
 cast-if1 : tie.Need-cast-if1 Inv-loop μ-loop
 cast-if1 c = search needs
