@@ -62,7 +62,7 @@ fn changed_entry(s: Opened, work: &[u8], name: &[u8], j: usize, v: Version) -> E
     let own = own_stamp(s);
     let present = present_view(s);
     let stamp = e.stamp;
-    let st = counts::stands(work, g, present, own, stamp);
+    let st = stamps::stands(work, g, present, own, stamp);
     entries::changed(st, own, e, name, v)
 }
 

@@ -26,7 +26,7 @@ pub fn put(session: Session, work: &mut [u8], name: &[u8], content: &[u8]) -> An
     if s.worn {
         return refusal(9);
     }
-    let good = rules::good_name(name);
+    let good = names::good_name(name);
     if !good {
         return refusal(5);
     }
@@ -55,13 +55,13 @@ pub fn remove(session: Session, work: &mut [u8], name: &[u8]) -> Answer
     if s.worn {
         return refusal(9);
     }
-    let good = rules::good_name(name);
+    let good = names::good_name(name);
     if !good {
         return refusal(5);
     }
     let g = s.geo;
     let present = session::present_view(s);
-    let Found::At(j) = directory::find_name(work, g, present, present, name) else {
+    let Found::At(j) = lookup::find_name(work, g, present, present, name) else {
         return refusal(6);
     };
     remove_in(s, work, name, j);

@@ -153,7 +153,7 @@ pub fn page_at(card: &[u8], g: Geo, v: View) -> Sector
 {
     let at = 512 * (g.t as usize + 1);
     let end = at + 512;
-    bitmap::shown_page(card, g, v, &card[at..end])
+    index::shown_page(card, g, v, &card[at..end])
 }
 
 // How many bits of the page that a view shows are clear.
@@ -185,11 +185,11 @@ pub fn get_in(img: &[u8], g: Geo, v: View, name: &[u8], out: &mut [u8]) -> Answe
     requires { ⌜ LaidOut g (now img) × ((length (now img) ≡ 512 * g .s) × RunsOk g (tableIn g v (sec (now img))) (entriesOf g (sec (now img)))) ⌝ }
     ensures { λ r. ⌜ IsGot r (now (out .exit)) (getIn g (tableIn g v (sec (now (img .entry)))) (now (img .entry)) (now (name .entry)) (now (out .entry))) ⌝ }
 {
-    let good = rules::good_name(name);
+    let good = names::good_name(name);
     if !good {
         return refusal(5);
     }
-    let Found::At(j) = directory::find_name(img, g, v, v, name) else {
+    let Found::At(j) = lookup::find_name(img, g, v, v, name) else {
         return refusal(6);
     };
     get_at(img, g, v, j, out)

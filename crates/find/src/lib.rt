@@ -22,10 +22,10 @@ pub fn put_place(s: Opened, work: &[u8], name: &[u8]) -> Found
     let g = s.geo;
     let present = present_view(s);
     let cut = counts::as_is(g);
-    let by_name = directory::find_name(work, g, present, cut, name);
+    let by_name = lookup::find_name(work, g, present, cut, name);
     match by_name {
         Found::At(j) => Found::At(j),
-        Found::Nowhere => directory::find_free(work, g, present, cut),
+        Found::Nowhere => lookup::find_free(work, g, present, cut),
     }
 }
 

@@ -67,7 +67,7 @@ fn fresh_index(g: Geo) -> [u8; 512]
         b: Sector(g.t + 3),
     };
     let mut s = [0u8; 512];
-    bitmap::fill_index(&mut s, x);
+    index::fill_index(&mut s, x);
     s
 }
 

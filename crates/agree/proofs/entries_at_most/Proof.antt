@@ -1,0 +1,109 @@
+-- `session::entries_at_most` meets its contract: in the loop the answer is that for what is left. Assumes nothing.
+use mathlib.Core.Path.{_≡_, refl}
+use mathlib.Core.List.{[]}
+use Prim.Native.Nat.{_-_, _≤_}
+use native.Mathlib.Omega.{arith}
+use borrow.Author.Needs.{needs}
+use denote.Ref.{now}
+use lib.ListN.{drop}
+use Rattle.words.specs.Lists.{every}
+use Rattle.words.specs.EveryLaws.{every-stop, every-go, every-end}
+use Rattle.sectors.specs.Sectors.{sec}
+use Rattle.directory.specs.Directory.{entriesOf}
+use Rattle.directory.specs.DirectoryLaws.{entries-lt, entries-le, entry-test}
+use Rattle.session.specs.Fits.{entryAtMost}
+use Rattle.agree.proofs.entries_at_most.Statement.{statement}
+use Rattle.agree.proofs.entries_at_most.Tie as tie
+
+abbrev Inv-loop : tie.InvT-loop
+Inv-loop s work first n j₀ j = (j ≤ n) × (every (entryAtMost s) (entriesOf (s .geo) (sec work)) ≡ every (entryAtMost s) (drop j (entriesOf (s .geo) (sec work))))
+
+abbrev μ-loop : tie.MeasureT-loop
+μ-loop s work first n j₀ j = n - j
+
+cast-first : tie.Need-cast-first Inv-loop μ-loop
+cast-first c = search needs
+
+add-first : tie.Need-add-first Inv-loop μ-loop
+add-first c = search needs
+
+mul-first : tie.Need-mul-first Inv-loop μ-loop
+mul-first c = search needs
+
+cast-n : tie.Need-cast-n Inv-loop μ-loop
+cast-n c = search needs
+
+mul-n : tie.Need-mul-n Inv-loop μ-loop
+mul-n c = search needs
+
+loop-holds : tie.Need-loop-holds Inv-loop μ-loop
+loop-holds c = (omega arith, refl)
+
+mul-at : tie.Need-mul-at Inv-loop μ-loop
+mul-at c = search needs
+
+add-at : tie.Need-add-at Inv-loop μ-loop
+add-at c = search needs
+
+add-end : tie.Need-add-end Inv-loop μ-loop
+add-end c = search needs
+
+sub-entry-at-most : tie.Need-sub-entry-at-most Inv-loop μ-loop
+sub-entry-at-most c = search needs
+
+part-entry-at-most-start : tie.Need-part-entry-at-most-start Inv-loop μ-loop
+part-entry-at-most-start c = search needs
+
+part-entry-at-most-end : tie.Need-part-entry-at-most-end Inv-loop μ-loop
+part-entry-at-most-end c = search needs
+
+entry-at-most-requires : tie.Need-entry-at-most-requires Inv-loop μ-loop
+entry-at-most-requires c κs = search needs
+
+returns : tie.Need-returns Inv-loop μ-loop
+returns c =
+    let a = c .before .before .before .before .before .before .before .before .before .args in
+    let h = c .before .before .before .loop-test .taken in
+    let e = entry-test (a .s .geo) (now (a .work)) _ (entryAtMost (a .s)) h (c .before .entry-at-most .ensures) in
+    every-stop _ _ [] _ _ (entries-lt _ _ _ h) e (c .if1 .taken) (c .before .before .before .before .loop .inv .1)
+
+add-j : tie.Need-add-j Inv-loop μ-loop
+add-j c = search needs
+
+loop-less : tie.Need-loop-less Inv-loop μ-loop
+loop-less c = search needs
+
+loop-again : tie.Need-loop-again Inv-loop μ-loop
+loop-again c =
+    let a = c .before .before .before .before .before .before .before .before .before .args in
+    let h = c .before .before .before .loop-test .taken in
+    let e = entry-test (a .s .geo) (now (a .work)) _ (entryAtMost (a .s)) h (c .before .entry-at-most .ensures) in
+    (omega arith, every-go _ _ [] _ _ (entries-lt _ _ _ h) e (c .if1 .left) (c .before .before .before .before .loop .inv .1))
+
+returns-2 : tie.Need-returns-2 Inv-loop μ-loop
+returns-2 c = every-end _ _ [] _ (entries-le _ _ _ (c .loop-test .left)) (c .before .loop .inv .1)
+
+pub entries-at-most-spec : {M : Type 1} → statement M
+entries-at-most-spec =
+    tie.close
+    (tie.spec
+    Inv-loop
+    μ-loop
+    cast-first
+    add-first
+    mul-first
+    cast-n
+    mul-n
+    loop-holds
+    mul-at
+    add-at
+    add-end
+    sub-entry-at-most
+    part-entry-at-most-start
+    part-entry-at-most-end
+    entry-at-most-requires
+    returns
+    add-j
+    loop-less
+    loop-again
+    returns-2)

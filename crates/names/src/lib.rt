@@ -1,0 +1,77 @@
+// Names: when one is good, and when an entry has it.
+ghost use mathlib.Core.Path.{_≡_};
+ghost use Prim.Native.Nat.{_+_, min};
+ghost use lib.ListN.{length};
+ghost use Rattle.words.specs.Lists.{every, eqList};
+ghost use Rattle.words.specs.Bytes.{wordAt};
+ghost use Rattle.entries.specs.Entries.{goodByte, goodName, nameOf, nameOk};
+
+// ---- names
+
+// Whether every byte may stand in a name.
+pub fn good_bytes(s: &[u8]) -> bool
+    ensures { λ r. ⌜ r ≡ every goodByte (now (s .entry)) ⌝ }
+{
+    let mut i = 0;
+    while i < s.len() {
+        let ok = (33 <= s[i]) & (s[i] <= 126);
+        if !ok {
+            return false;
+        }
+        i += 1;
+    }
+    true
+}
+
+// Whether a name has 1 to 32 bytes, each 33 to 126.
+pub fn good_name(n: &[u8]) -> bool
+    ensures { λ r. ⌜ r ≡ goodName (now (n .entry)) ⌝ }
+{
+    (1 <= n.len()) & (n.len() <= 32) & good_bytes(n)
+}
+
+// Whether the first n of an entry's name bytes are a good name and the others are 0.
+pub fn name_ok(n: u32, b: &[u8]) -> bool
+    requires { ⌜ length (now b) ≡ 32 ⌝ }
+    ensures { λ r. ⌜ r ≡ nameOk n (now (b .entry)) ⌝ }
+{
+    if n < 1 {
+        return false;
+    }
+    if 32 < n {
+        return false;
+    }
+    let k = n as usize;
+    good_bytes(&b[0..k]) & words::zeros(&b[k..])
+}
+
+// Where the name of an entry ends in it.
+fn name_end(p: &[u8]) -> usize
+    requires { ⌜ length (now p) ≡ 128 ⌝ }
+    ensures { λ r. ⌜ r ≡ 12 + min (wordAt (now (p .entry)) 8) 32 ⌝ }
+{
+    let n = words::word_at(p, 8);
+    if n < 32 {
+        return 12 + (n as usize);
+    }
+    44
+}
+
+// Whether two entries have the same name.
+pub fn same_name(p: &[u8], q: &[u8]) -> bool
+    requires { ⌜ (length (now p) ≡ 128) × (length (now q) ≡ 128) ⌝ }
+    ensures { λ r. ⌜ r ≡ eqList (nameOf (now (p .entry))) (nameOf (now (q .entry))) ⌝ }
+{
+    let a = name_end(p);
+    let b = name_end(q);
+    words::same(&p[12..a], &q[12..b])
+}
+
+// Whether an entry has that name.
+pub fn has_name(n: &[u8], p: &[u8]) -> bool
+    requires { ⌜ length (now p) ≡ 128 ⌝ }
+    ensures { λ r. ⌜ r ≡ eqList (now (n .entry)) (nameOf (now (p .entry))) ⌝ }
+{
+    let b = name_end(p);
+    words::same(n, &p[12..b])
+}

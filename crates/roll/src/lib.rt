@@ -1,0 +1,105 @@
+// The rules of all entries: each passes, and no name is shown by two.
+ghost use mathlib.Core.Path.{_≡_};
+ghost use mathlib.Core.List.{[]};
+ghost use Prim.Native.Nat.{_+_, _*_, _<_};
+ghost use lib.ListN.{length, drop, getD};
+ghost use Rattle.words.specs.Lists.{every, pairwise};
+ghost use Rattle.sectors.specs.Sectors.{sec};
+ghost use Rattle.counts.specs.Stamps.{tableIn};
+ghost use Rattle.counts.specs.TableLaws.{LaidOut};
+ghost use Rattle.entries.specs.Entries.{entryOk};
+ghost use Rattle.directory.specs.Directory.{entriesOf, gone, apart};
+use counts::Geo;
+use counts::View;
+
+// Whether every entry passes in a view.
+pub fn entries_ok(card: &[u8], g: Geo, v: View, bound: u32) -> bool
+    requires { ⌜ LaidOut g (now card) ⌝ }
+    ensures { λ r. ⌜ r ≡ every (entryOk g bound (tableIn g v (sec (now (card .entry))))) (entriesOf g (sec (now (card .entry)))) ⌝ }
+{
+    let first = 512 * (g.t as usize + 4);
+    let n = 4 * (g.d as usize);
+    let mut j = 0;
+    while j < n {
+        let at = first + 128 * j;
+        let end = at + 128;
+        if !rules::entry_ok(card, g, v, bound, &card[at..end]) {
+            return false;
+        }
+        j += 1;
+    }
+    true
+}
+
+// Whether an entry shows no file in either of two views.
+pub fn is_gone(card: &[u8], g: Geo, v: View, w: View, p: &[u8]) -> bool
+    requires { ⌜ LaidOut g (now card) × (length (now p) ≡ 128) ⌝ }
+    ensures { λ r. ⌜ r ≡ gone (tableIn g v (sec (now (card .entry)))) (tableIn g w (sec (now (card .entry)))) (now (p .entry)) ⌝ }
+{
+    let one = entries::is_absent(entries::shown(card, g, v, p));
+    let other = entries::is_absent(entries::shown(card, g, w, p));
+    one & other
+}
+
+// Whether two entries do not both show a file, in either view, under one name.
+pub fn apart(card: &[u8], g: Geo, v: View, w: View, p: &[u8], q: &[u8]) -> bool
+    requires { ⌜ LaidOut g (now card) × (length (now p) ≡ 128) × (length (now q) ≡ 128) ⌝ }
+    ensures { λ r. ⌜ r ≡ apart (tableIn g v (sec (now (card .entry)))) (tableIn g w (sec (now (card .entry)))) (now (p .entry)) (now (q .entry)) ⌝ }
+{
+    let like = names::same_name(p, q);
+    if !like {
+        return true;
+    }
+    is_gone(card, g, v, w, p) | is_gone(card, g, v, w, q)
+}
+
+// Whether entry i stands apart from each later one.
+fn apart_from(card: &[u8], g: Geo, v: View, w: View, i: usize) -> bool
+    requires { ⌜ LaidOut g (now card) × (i < 4 * g .d) ⌝ }
+    ensures { λ r. ⌜ r ≡ every (apart (tableIn g v (sec (now (card .entry)))) (tableIn g w (sec (now (card .entry)))) (getD (entriesOf g (sec (now (card .entry)))) i [])) (drop (i + 1) (entriesOf g (sec (now (card .entry))))) ⌝ }
+{
+    let first = 512 * (g.t as usize + 4);
+    let n = 4 * (g.d as usize);
+    let from = first + 128 * i;
+    let to = from + 128;
+    let mut j = i + 1;
+    while j < n {
+        let at = first + 128 * j;
+        let end = at + 128;
+        if !apart(card, g, v, w, &card[from..to], &card[at..end]) {
+            return false;
+        }
+        j += 1;
+    }
+    true
+}
+
+// The same, and quick where entry i shows no file.
+fn alone(card: &[u8], g: Geo, v: View, w: View, i: usize) -> bool
+    requires { ⌜ LaidOut g (now card) × (i < 4 * g .d) ⌝ }
+    ensures { λ r. ⌜ r ≡ every (apart (tableIn g v (sec (now (card .entry)))) (tableIn g w (sec (now (card .entry)))) (getD (entriesOf g (sec (now (card .entry)))) i [])) (drop (i + 1) (entriesOf g (sec (now (card .entry))))) ⌝ }
+{
+    let at = 512 * (g.t as usize + 4) + 128 * i;
+    let end = at + 128;
+    let gone = is_gone(card, g, v, w, &card[at..end]);
+    if gone {
+        return true;
+    }
+    apart_from(card, g, v, w, i)
+}
+
+// Whether no name is shown, in either view, by two entries.
+pub fn names_ok(card: &[u8], g: Geo, v: View, w: View) -> bool
+    requires { ⌜ LaidOut g (now card) ⌝ }
+    ensures { λ r. ⌜ r ≡ pairwise (apart (tableIn g v (sec (now (card .entry)))) (tableIn g w (sec (now (card .entry))))) (entriesOf g (sec (now (card .entry)))) ⌝ }
+{
+    let n = 4 * (g.d as usize);
+    let mut i = 0;
+    while i < n {
+        if !alone(card, g, v, w, i) {
+            return false;
+        }
+        i += 1;
+    }
+    true
+}
