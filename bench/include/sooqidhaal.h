@@ -1,8 +1,10 @@
 /*
- * Sooqidhaal: a file store on a lent card image, as six functions for a host.
+ * Sooqidhaal: a file store on a lent card image, as six functions for a host,
+ * and two more for list over a lent table of lines.
  *
- * Link target/staticlib/libhost.a, which needs nothing but memcpy, memmove
- * and memset.
+ * Link target/staticlib/libhost.a for the six and target/staticlib/liblists.a
+ * for list's two. They need nothing but memcpy, memmove and memset, and each
+ * can be linked without the other.
  *
  * Images. A card is a byte buffer of 512 * S bytes that survives a cut; the
  * working image is a second buffer of the same length that need not. The
@@ -11,9 +13,10 @@
  * What is taken. Every call takes buffers of any length and content, any
  * 24 bytes as a session, any name and any number, and always ends. What the
  * caller answers for is C's own: each pointer is valid for its length (for the
- * arrays: 16 and 24 bytes), also where the length is 0, it needs no alignment,
- * and NO TWO LENT BUFFERS OVERLAP where one of them is written to. Nothing is
- * promised for a buffer lent twice in one call.
+ * arrays: 16 and 24 bytes; for a table: lines_len lines), also where the length
+ * is 0, bytes need no alignment and a table that of its struct, and NO TWO LENT
+ * BUFFERS OVERLAP where one of them is written to. Nothing is promised for a
+ * buffer lent twice in one call.
  *
  * A session is 24 bytes, six words of 32 bits, least byte first: state
  * (0 closed, 1 open, 2 open and worn), S, T, D, c, t. The closed session is
@@ -21,8 +24,8 @@
  * is an open session that never fits. It is no secret and may be kept
  * anywhere; a session that does not belong to the working image is refused.
  *
- * Numbers. Each function gives one of these. A refusal (not 0) changes no
- * byte, but that a refused mount stores the closed session.
+ * Numbers. Each function gives one of these, list's two with a count. A refusal
+ * (not 0) changes no byte, but that a refused mount stores the closed session.
  *
  *    0  done
  *    1  geometry outside the limits, or an image of the wrong length
@@ -33,9 +36,10 @@
  *    7  no entry for the name
  *    8  no run of sectors free in both views
  *    9  change or sync in a worn session
+ *   10  list: more files than lines
  *   11  sector number S or more
  *
- * (6 and 10 belong to calls that are not among these.)
+ * (6 belongs to calls that are not among these.)
  */
 #ifndef SOOQIDHAAL_H
 #define SOOQIDHAAL_H
@@ -57,6 +61,7 @@ enum {
     STORE_NO_ENTRY = 7,
     STORE_NO_ROOM = 8,
     STORE_WORN = 9,
+    STORE_SHORT_OUTPUT = 10,
     STORE_NO_SECTOR = 11
 };
 
@@ -64,6 +69,29 @@ enum {
 #define STORE_SECTOR 512
 #define STORE_SESSION_BYTES 24
 #define STORE_REPORT_BYTES 16
+
+/* Where a file's content is: its first sector (0 for a file of 0 bytes), its
+ * sectors and its bytes. */
+struct store_run {
+    uint32_t start;
+    uint32_t sectors;
+    uint32_t bytes;
+};
+
+/* One line of a list, 48 bytes: the length of a name, the name with its unused
+ * bytes 0 (so one of 32 bytes has no 0 at its end), and its file. */
+struct store_line {
+    uint32_t size;
+    uint8_t name[32];
+    struct store_run run;
+};
+
+/* What a list gives: one of the numbers, and the lines filled (0 on a
+ * refusal). */
+struct store_answer {
+    uint32_t number;
+    uint32_t count;
+};
 
 /* Makes a fresh card of s sectors, t of them table and d directory: 1. A make
  * that gives 0 ends any session on the card. */
@@ -97,6 +125,17 @@ uint32_t store_sync(uint8_t session[24], uint8_t *card, size_t card_len,
  * 4, 1, 2, 11. */
 uint32_t store_land(const uint8_t session[24], uint8_t *card, size_t card_len,
                     const uint8_t *work, size_t work_len, uint32_t sector);
+
+/* Lists the files that a card shows, which needs no session: 1, 2, 10. The
+ * first lines are filled in entry order and counted, the later ones stay as
+ * they are. A card of D directory sectors shows at most 4 * D files. */
+struct store_answer store_read_list(const uint8_t *card, size_t card_len,
+                                    struct store_line *lines, size_t lines_len);
+
+/* Lists the present files of a session in the same way: 4, 2, 10. */
+struct store_answer store_list(const uint8_t session[24],
+                               const uint8_t *work, size_t work_len,
+                               struct store_line *lines, size_t lines_len);
 
 #ifdef __cplusplus
 }

@@ -1,10 +1,11 @@
 //! The cut bench: the proved store's host functions beside the plain version.
 //!
-//! A history is a list of lines ([`Op`]), each a call of the six functions, a
-//! cut, or some meddling with images and session, and has a text form. Both
+//! A history is a list of lines ([`Op`]), each a call of the six functions or
+//! of list's two, a cut, or some meddling with images and session, and has a text form. Both
 //! stores run it from the same state. After every call the numbers, sessions
 //! and all bytes of both images must be the same, and a refusal must have
-//! changed nothing. Removes and unmounts, for which there is no host function,
+//! changed nothing. A list's table holds rubbish beforehand, and lines that it
+//! does not count must still hold it. Removes and unmounts, for which there is no host function,
 //! are done by the plain version, and its images are given to both sides.
 //!
 //! At a cut each sector of the card may hold any value written to it since the
@@ -24,6 +25,7 @@ mod files;
 mod histories;
 mod hostile;
 mod image;
+mod lists;
 mod op;
 mod parse;
 pub mod parts;

@@ -1,6 +1,6 @@
-//! The six host functions of the proved store, as safe Rust.
+//! The six host functions of the proved store and list's two, as safe Rust.
 //!
-//! `include/sooqidhaal.h` declares the same six for C. Each gives one of the
+//! `include/sooqidhaal.h` declares the same for C. Each gives one of the
 //! numbers of the paper's table. Every call takes any image of any length, any
 //! 24 bytes as a session, any name and any content; a call that is refused
 //! changes nothing, but that a refused mount gives the closed session. Rust's
@@ -9,17 +9,35 @@
 //! A session crosses as six words, least byte first: state (0 closed, 1 open,
 //! 2 open and worn), S, T, D, c, t. The closed session is 24 zero bytes.
 
-use crate::plain::{REPORT_BYTES, SESSION_BYTES};
+use crate::plain::{Line, REPORT_BYTES, SESSION_BYTES};
+use std::mem::{align_of, offset_of, size_of};
 
 /// A session as it crosses to the host functions.
 pub type SessionBytes = [u8; SESSION_BYTES];
 /// What reading a card gives: words C, N, files shown, clear bits.
 pub type ReportBytes = [u8; REPORT_BYTES];
 
-/// The symbols of the library: a lent slice crosses as a pointer and a
+/// What a list gives.
+#[repr(C)]
+#[derive(Clone, Copy, Debug, PartialEq, Eq)]
+pub struct Answer {
+    pub number: u32,
+    /// The lines filled, 0 on a refusal.
+    pub count: u32,
+}
+
+// A line crosses as 48 bytes: a length, a name and a run of three words.
+const _: () = {
+    assert!(size_of::<Line>() == 48 && align_of::<Line>() == 4);
+    assert!(offset_of!(Line, length) == 0 && offset_of!(Line, name) == 4);
+    assert!(offset_of!(Line, start) == 36 && offset_of!(Line, sectors) == 40);
+    assert!(offset_of!(Line, bytes) == 44);
+};
+
+/// The symbols of the two libraries: a lent slice crosses as a pointer and a
 /// length, a lent array as a pointer.
 mod symbols {
-    use super::{ReportBytes, SessionBytes};
+    use super::{Answer, Line, ReportBytes, SessionBytes};
 
     extern "C" {
         pub fn store_make(s: u32, t: u32, d: u32, card: *mut u8, card_len: usize) -> u32;
@@ -55,6 +73,19 @@ mod symbols {
             work_len: usize,
             sector: u32,
         ) -> u32;
+        pub fn store_read_list(
+            card: *const u8,
+            card_len: usize,
+            lines: *mut Line,
+            lines_len: usize,
+        ) -> Answer;
+        pub fn store_list(
+            session: *const SessionBytes,
+            work: *const u8,
+            work_len: usize,
+            lines: *mut Line,
+            lines_len: usize,
+        ) -> Answer;
     }
 }
 
@@ -116,4 +147,20 @@ pub fn land(session: &SessionBytes, card: &mut [u8], work: &[u8], sector: u32) -
     let (card_len, card) = (card.len(), card.as_mut_ptr());
     // SAFETY: see above.
     unsafe { symbols::store_land(session, card, card_len, work.as_ptr(), work.len(), sector) }
+}
+
+/// Fills the first lines with the files that a card shows, in entry order, and
+/// counts them: 1, 2, 10. The later lines stay as they are, and all of them on
+/// a refusal.
+pub fn read_list(card: &[u8], lines: &mut [Line]) -> Answer {
+    let (lines_len, lines) = (lines.len(), lines.as_mut_ptr());
+    // SAFETY: see above; any bytes the function leaves are a line.
+    unsafe { symbols::store_read_list(card.as_ptr(), card.len(), lines, lines_len) }
+}
+
+/// The same with the present files of a session: 4, 2, 10.
+pub fn list(session: &SessionBytes, work: &[u8], lines: &mut [Line]) -> Answer {
+    let (lines_len, lines) = (lines.len(), lines.as_mut_ptr());
+    // SAFETY: see above; any bytes the function leaves are a line.
+    unsafe { symbols::store_list(session, work.as_ptr(), work.len(), lines, lines_len) }
 }

@@ -1,18 +1,15 @@
-//! The six calls of a store on numbers and byte buffers, so that two stores
-//! can be run beside each other.
+//! The six calls of a store on numbers and byte buffers, and list over a lent
+//! table of lines, so that two stores can be run beside each other.
 
-use crate::host::{self, ReportBytes, SessionBytes};
+use crate::host::{self, Answer, ReportBytes, SessionBytes};
 use crate::plain::steps::{self, Step};
-use crate::plain::{self, Session};
+use crate::plain::{self, Line, Session};
 
 /// The writes of a call, or its refusal.
 pub type Steps = Result<Vec<Step>, u32>;
 
 /// A store as a host sees it. The numbers are those of the paper's table, and
 /// a session is its six words.
-///
-/// Further calls (list over a lent table of lines) join here when the host
-/// functions have them.
 pub trait Store: Sync {
     /// Makes a fresh card of S, T and D.
     fn make(&self, s: u32, t: u32, d: u32, card: &mut [u8]) -> u32;
@@ -26,6 +23,11 @@ pub trait Store: Sync {
     fn sync(&self, session: &mut SessionBytes, card: &mut [u8], work: &mut [u8]) -> u32;
     /// Copies one sector to the card.
     fn land(&self, session: &SessionBytes, card: &mut [u8], work: &[u8], sector: u32) -> u32;
+
+    /// Fills the first lines with the files that a card shows and counts them.
+    fn read_list(&self, card: &[u8], lines: &mut [Line]) -> Answer;
+    /// Fills the first lines with a session's present files and counts them.
+    fn list(&self, session: &SessionBytes, work: &[u8], lines: &mut [Line]) -> Answer;
 
     /// The card writes of a sync in order, for cuts inside it. A call cannot
     /// be stopped half way from outside, so the plain version's list stands
@@ -61,6 +63,14 @@ impl Store for Proved {
 
     fn land(&self, session: &SessionBytes, card: &mut [u8], work: &[u8], sector: u32) -> u32 {
         host::land(session, card, work, sector)
+    }
+
+    fn read_list(&self, card: &[u8], lines: &mut [Line]) -> Answer {
+        host::read_list(card, lines)
+    }
+
+    fn list(&self, session: &SessionBytes, work: &[u8], lines: &mut [Line]) -> Answer {
+        host::list(session, work, lines)
     }
 }
 
@@ -104,4 +114,19 @@ impl Store for Plain {
     fn land(&self, session: &SessionBytes, card: &mut [u8], work: &[u8], sector: u32) -> u32 {
         plain::land(&Session::decode(session), card, work, sector)
     }
+
+    fn read_list(&self, card: &[u8], lines: &mut [Line]) -> Answer {
+        answer(plain::read_list(card, lines))
+    }
+
+    fn list(&self, session: &SessionBytes, work: &[u8], lines: &mut [Line]) -> Answer {
+        answer(plain::list(&Session::decode(session), work, lines))
+    }
+}
+
+/// A count, or a refusal with count 0.
+fn answer(counted: Result<u32, u32>) -> Answer {
+    let number = counted.err().unwrap_or(plain::DONE);
+    let count = counted.unwrap_or(0);
+    Answer { number, count }
 }

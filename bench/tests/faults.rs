@@ -69,6 +69,15 @@ fn reading_back_finds_syncs_that_only_say_so_and_made_up_counts() {
     }
 }
 
+/// Beside themselves: a table holds rubbish, and a session's files are known.
+#[test]
+fn lists_that_touch_or_leave_out_a_line_are_found() {
+    for wrong in [Wrong::ListsPast, Wrong::ListsShort] {
+        let small = found(Pair(&wrong, &wrong));
+        assert!(small.what.starts_with("list "), "{}", small.what);
+    }
+}
+
 #[test]
 fn comparing_finds_every_wrong_byte_and_number() {
     for wrong in [
@@ -79,6 +88,8 @@ fn comparing_finds_every_wrong_byte_and_number() {
         Wrong::MarksRefusals,
         Wrong::MakesUpFree,
         Wrong::Says2As0,
+        Wrong::ListsPast,
+        Wrong::ListsShort,
     ] {
         found(Pair(&wrong, &Plain));
     }
@@ -100,6 +111,8 @@ fn text_that_is_no_history_is_refused() {
     for bad in [
         "put a",
         "land",
+        "list",
+        "read-list x",
         "put a 1 2 3",
         "fresh 1 2 x",
         "poke disk 1 2",

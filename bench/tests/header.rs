@@ -19,6 +19,7 @@ fn a_c_host_runs_a_few_lines_of_the_sheet() {
         .arg(here.join("include"))
         .arg(here.join("tests/c/sheet.c"))
         .arg(here.join("../target/staticlib/libhost.a"))
+        .arg(here.join("../target/staticlib/liblists.a"))
         .arg("-o")
         .arg(&program)
         .status()

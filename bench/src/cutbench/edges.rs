@@ -17,10 +17,11 @@ pub fn all() -> Vec<Vec<Op>> {
 }
 
 /// A session of some calls and cuts that ends in an unmount.
-const SESSION: &str = "read; mount; put a 600 1; try 1; land 1; sync; try 2; put b 0 2; land 0;
-    try 3; sync; put a 700 3; try 4; cut-in sync 1000 4; mount; remove a; put c 1 5; try 5;
-    sync; sync; put d 5 6; unmount; try 6; read; mount; put e 513 7; cut 7; read; mount;
-    unmount; read";
+const SESSION: &str = "read; list 0; read-list 0; mount; list 0; put a 600 1; list 0; list 1;
+    try 1; land 1; sync; try 2; put b 0 2; land 0; try 3; sync; put a 700 3; list 2; try 4;
+    cut-in sync 1000 4; mount; remove a; list 1; put c 1 5; list 2; try 5; sync; sync; put d 5 6;
+    list 3; unmount; list 3; read-list 2; read-list 3; read-list 4; try 6; read; mount;
+    put e 513 7; cut 7; read; mount; unmount; read";
 
 /// Geometries just inside and just outside the limits.
 fn limits() -> Vec<String> {
@@ -104,9 +105,12 @@ fn full_directories() -> Vec<String> {
         let puts: String = (0..4 * d)
             .map(|i| format!("put f{i} {} {i};", i % 3 / 2))
             .collect();
+        let all = 4 * d;
+        let (less, more) = (all - 1, all + 1);
         texts.push(format!(
-            "fresh {s} {t} {d}; mount; {puts} put more 0 1; try 1; sync; put more 0 1; try 2;
-             remove f3; put more 0 1; put f3 0 2; remove f3; try 3; sync; put more 1 3; read;
+            "fresh {s} {t} {d}; mount; {puts} put more 0 1; try 1; read-list 0; sync; put more 0 1;
+             try 2; list {less}; list {all}; list {more}; list 0; read-list {less};
+             read-list {all}; read-list {more}; read-list 0; remove f3; list {less}; put more 0 1; put f3 0 2; remove f3; try 3; sync; put more 1 3; read;
              try 4; cut-in unmount 5000 5; mount; put f3 1 1; put f2 1 1; sync; unmount; read"
         ));
     }

@@ -34,8 +34,21 @@ pub fn random(dice: &mut Dice, length: usize) -> Vec<Op> {
     list.push(Op::Mount);
     while list.len() < length {
         some(dice, s, &mut list);
+        if dice.one_in(5) {
+            list.push(lines(dice));
+        }
     }
     list
+}
+
+/// A list into a table that is too short, just long enough, or longer.
+fn lines(dice: &mut Dice) -> Op {
+    let length = dice.below(9);
+    if dice.one_in(3) {
+        Op::ReadList(length)
+    } else {
+        Op::List(length)
+    }
 }
 
 fn geometry(dice: &mut Dice) -> (u32, u32, u32) {

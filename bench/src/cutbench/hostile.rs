@@ -52,7 +52,7 @@ impl Cards {
 pub fn random(dice: &mut Dice, cards: &Cards) -> Vec<Op> {
     let mut list = beginning(dice, cards);
     list.push(Op::Save);
-    for _ in 0..40 {
+    for _ in 0..46 {
         list.push(Op::Back);
         for _ in 0..dice.below(4) {
             list.push(mutation(dice));
@@ -123,7 +123,7 @@ fn length(dice: &mut Dice) -> usize {
 }
 
 fn call(dice: &mut Dice) -> Op {
-    match dice.below(16) {
+    match dice.below(19) {
         0 => Op::Make(word(dice), word(dice), word(dice)),
         1 => Op::Make(10, 1 + dice.below(2) as u32, 1),
         2..=3 => Op::Read,
@@ -131,8 +131,15 @@ fn call(dice: &mut Dice) -> Op {
         6..=9 => put(dice),
         10..=12 => Op::Sync,
         13 => Op::Land(word(dice)),
-        _ => Op::Land(dice.below(11) as u32),
+        14..=15 => Op::Land(dice.below(11) as u32),
+        16..=17 => Op::List(lines(dice)),
+        _ => Op::ReadList(lines(dice)),
     }
+}
+
+/// Most cards have none to four files.
+fn lines(dice: &mut Dice) -> usize {
+    *dice.one_of(&[0, 0, 1, 1, 2, 2, 3, 3, 4, 4, 5, 6, 7, 255, 256, 257])
 }
 
 fn put(dice: &mut Dice) -> Op {

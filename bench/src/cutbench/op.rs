@@ -33,6 +33,10 @@ pub enum Op {
     },
     Sync,
     Land(u32),
+    /// A list into a table of so many lines.
+    List(usize),
+    /// Reading's list into a table of so many lines.
+    ReadList(usize),
     /// By the plain version, for both sides.
     Remove(Vec<u8>),
     /// By the plain version, for both sides.
@@ -96,6 +100,8 @@ impl fmt::Display for Op {
             Op::Put { name, bytes, seed } => write!(f, "put {} {bytes} {seed}", escaped(name)),
             Op::Sync => write!(f, "sync"),
             Op::Land(sector) => write!(f, "land {sector}"),
+            Op::List(lines) => write!(f, "list {lines}"),
+            Op::ReadList(lines) => write!(f, "read-list {lines}"),
             Op::Remove(name) => write!(f, "remove {}", escaped(name)),
             Op::Unmount => write!(f, "unmount"),
             Op::Try(seed) => write!(f, "try {seed}"),

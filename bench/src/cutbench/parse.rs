@@ -34,6 +34,8 @@ fn op(line: &str) -> Option<Op> {
         },
         "sync" => Op::Sync,
         "land" => Op::Land(number(w)?),
+        "list" => Op::List(number(w)?),
+        "read-list" => Op::ReadList(number(w)?),
         "remove" => Op::Remove(name(w)?),
         "unmount" => Op::Unmount,
         "try" => Op::Try(number(w)?),

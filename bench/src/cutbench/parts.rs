@@ -73,7 +73,7 @@ pub fn run(
     let cards = hostile::Cards::small();
     let (fixed, scripts) = (exhaustive::all(plan.most), edges::all());
     let dice = |part, i| Dice::new(Dice::seed_of(plan.seed, part, i));
-    let random = |i| Some(histories::random(&mut dice(1, i), 60));
+    let random = |i| Some(histories::random(&mut dice(1, i), 66));
     let damaged = |i| Some(hostile::random(&mut dice(2, i), &cards));
     let every = Limit::Histories(u64::MAX);
     let parts: [(&'static str, Limit, &Source); 4] = [

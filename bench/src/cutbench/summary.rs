@@ -14,34 +14,38 @@ pub struct Tally {
     pub cuts: u64,
     /// Cards read back and compared with the files that they must show.
     pub cards: u64,
-    /// How often each of the six calls gave each number.
-    pub given: [[u64; 12]; 6],
+    /// How often each call gave each number.
+    pub given: [[u64; 12]; 8],
 }
 
-/// One of the six calls, as a row of the numbers given.
+/// One of the six calls or of list's two, as a row of the numbers given.
 #[derive(Clone, Copy, Debug, PartialEq, Eq)]
-pub enum Six {
+pub enum Call {
     Make,
     Read,
     Mount,
     Put,
     Sync,
     Land,
+    List,
+    ReadList,
 }
 
-/// The six calls with the numbers that the paper lets each give.
-const NUMBERS: [(Six, &[usize]); 6] = [
-    (Six::Make, &[0, 1]),
-    (Six::Read, &[0, 1, 2]),
-    (Six::Mount, &[0, 1, 2, 3]),
-    (Six::Put, &[0, 2, 4, 5, 7, 8, 9]),
-    (Six::Sync, &[0, 1, 2, 4, 9]),
-    (Six::Land, &[0, 1, 2, 4, 11]),
+/// The calls and their names, with the numbers that the paper lets each give.
+const NUMBERS: [(Call, &str, &[usize]); 8] = [
+    (Call::Make, "make", &[0, 1]),
+    (Call::Read, "read", &[0, 1, 2]),
+    (Call::Mount, "mount", &[0, 1, 2, 3]),
+    (Call::Put, "put", &[0, 2, 4, 5, 7, 8, 9]),
+    (Call::Sync, "sync", &[0, 1, 2, 4, 9]),
+    (Call::Land, "land", &[0, 1, 2, 4, 11]),
+    (Call::List, "list", &[0, 2, 4, 10]),
+    (Call::ReadList, "read-list", &[0, 1, 2, 10]),
 ];
 
 impl Tally {
     /// Counts a call and its number.
-    pub fn count(&mut self, call: Six, number: u32) {
+    pub fn count(&mut self, call: Call, number: u32) {
         self.calls += 1;
         let row = &mut self.given[call as usize];
         if let Some(place) = row.get_mut(number as usize) {
@@ -51,7 +55,7 @@ impl Tally {
 
     /// Whether every call gave each number of its own, and no other.
     pub fn gave_all(&self) -> bool {
-        NUMBERS.iter().all(|(call, own)| {
+        NUMBERS.iter().all(|(call, _, own)| {
             let row = &self.given[*call as usize];
             (0..row.len()).all(|n| (row[n] > 0) == own.contains(&n))
         })
@@ -107,14 +111,13 @@ pub fn table(rows: &[Row]) -> String {
     text + &line(&all) + "\n" + &numbers(&all.tally)
 }
 
-/// A line for each of the six calls: how often it gave each number.
+/// A line for each call: how often it gave each number.
 fn numbers(tally: &Tally) -> String {
     let mut text = String::from("numbers given\n");
-    for (call, own) in NUMBERS {
+    for (call, name, own) in NUMBERS {
         let row = &tally.given[call as usize];
         let seen = (0..row.len()).filter(|n| row[*n] > 0 || own.contains(n));
         let list: Vec<String> = seen.map(|n| format!("{n}: {}", row[n])).collect();
-        let name = format!("{call:?}").to_lowercase();
         text += &format!("{name:<12}{}\n", list.join(", "));
     }
     text

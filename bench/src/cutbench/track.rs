@@ -3,7 +3,7 @@
 use super::choices::Choices;
 use super::files::{files_of, Files};
 use super::op::Cuttable;
-use super::summary::Six;
+use super::summary::Call;
 use super::world::{Outcome, World};
 use crate::plain::{self, Session, DONE};
 
@@ -31,7 +31,7 @@ impl Track {
 impl World<'_> {
     pub(super) fn make(&mut self, s: u32, t: u32, d: u32) -> Outcome {
         let track = self.track.take();
-        let number = self.call(Six::Make, |store, side| {
+        let number = self.call(Call::Make, |store, side| {
             store.make(s, t, d, side.card.bytes_mut())
         })?;
         self.track = track.filter(|_| number != DONE);
@@ -42,7 +42,7 @@ impl World<'_> {
     /// stays as it is, also when it is refused.
     pub(super) fn mount(&mut self) -> Outcome {
         let was_open = self.session() != Session::Closed;
-        let number = self.call(Six::Mount, |store, side| {
+        let number = self.call(Call::Mount, |store, side| {
             let (card, work) = (side.card.bytes_mut(), side.work.bytes_mut());
             store.mount(card, work, &mut side.session)
         })?;
@@ -60,7 +60,7 @@ impl World<'_> {
     }
 
     pub(super) fn put(&mut self, name: &[u8], content: &[u8]) -> Outcome {
-        let number = self.call(Six::Put, |store, side| {
+        let number = self.call(Call::Put, |store, side| {
             store.put(&side.session, side.work.bytes_mut(), name, content)
         })?;
         if let Some(track) = self.track.as_mut().filter(|_| number == DONE) {
@@ -86,7 +86,7 @@ impl World<'_> {
     }
 
     pub(super) fn land(&mut self, sector: u32) -> Outcome {
-        let number = self.call(Six::Land, |store, side| {
+        let number = self.call(Call::Land, |store, side| {
             let (card, work) = (side.card.bytes_mut(), side.work.bytes());
             store.land(&side.session, card, work, sector)
         })?;
@@ -97,7 +97,7 @@ impl World<'_> {
     }
 
     pub(super) fn sync(&mut self) -> Outcome {
-        let number = self.call(Six::Sync, |store, side| {
+        let number = self.call(Call::Sync, |store, side| {
             let (card, work) = (side.card.bytes_mut(), side.work.bytes_mut());
             store.sync(&mut side.session, card, work)
         })?;

@@ -1,9 +1,9 @@
 //! The two stores with their images, and how a line of a history is run.
 
-use super::files::{files_of, sectors, told, Files};
+use super::files::{sectors, told, with_contents, Files};
 use super::image::{Image, Side};
 use super::op::{Op, Which};
-use super::summary::{Six, Tally};
+use super::summary::{Call, Tally};
 use super::track::Track;
 use crate::dice::Dice;
 use crate::plain::{self, word, Session, SECTOR};
@@ -55,6 +55,8 @@ impl<'a> World<'a> {
             Op::Put { name, bytes, seed } => self.put(name, &Dice::new(*seed).bytes(*bytes)),
             Op::Sync => self.sync(),
             Op::Land(sector) => self.land(*sector),
+            Op::List(lines) => self.list(*lines),
+            Op::ReadList(lines) => self.list_card(*lines),
             Op::Remove(name) => self.remove(name),
             Op::Unmount => self.unmount(),
             Op::Try(seed) => self.try_cut(*seed),
@@ -113,12 +115,12 @@ impl<'a> World<'a> {
     /// all as it was, but that a refused mount gives the closed session.
     pub(super) fn call(
         &mut self,
-        six: Six,
-        call: impl Fn(&dyn Store, &mut Side) -> u32,
+        kind: Call,
+        mut call: impl FnMut(&dyn Store, &mut Side) -> u32,
     ) -> Outcome<u32> {
         self.before.copy_from(&self.sides[0]);
         let [one, other] = [0, 1].map(|i| call(self.stores[i], &mut self.sides[i]));
-        self.tally.count(six, one);
+        self.tally.count(kind, one);
         if one != other {
             return Err(format!("gives {one}, the plain version {other}"));
         }
@@ -128,7 +130,7 @@ impl<'a> World<'a> {
         if one == plain::DONE {
             return Ok(one);
         }
-        if six == Six::Mount {
+        if kind == Call::Mount {
             self.before.session = Session::Closed.encode();
         }
         match self.sides[0].differs(&self.before) {
@@ -147,7 +149,7 @@ impl<'a> World<'a> {
             let mut out = RUBBISH;
             (store.read(card, &mut out), out)
         });
-        self.tally.count(Six::Read, one.0);
+        self.tally.count(Call::Read, one.0);
         if one != other {
             return Err(format!("read gives {one:?}, the plain version {other:?}"));
         }
@@ -157,11 +159,17 @@ impl<'a> World<'a> {
         Ok((one.0, word(&one.1, 0, 2), word(&one.1, 0, 3)))
     }
 
-    /// Reads a card back. It must show one of the lists of files: which one.
+    /// Reads a card back, with a table of one line more than it has files. It
+    /// must show one of the lists of files: which one.
     pub(super) fn look(&mut self, card: &[u8], allowed: &[&Files]) -> Outcome<usize> {
         self.tally.cards += 1;
         let (number, count, clear) = self.read(card)?;
-        let files = files_of(card).map_err(|n| format!("a card after a cut is refused {n}"))?;
+        let (refusal, lines) = self.read_list(card, count.min(256) as usize + 1)?;
+        let refused = |n| format!("a card after a cut is refused {n}");
+        if refusal != plain::DONE {
+            return Err(refused(refusal));
+        }
+        let files = with_contents(card, &lines).map_err(refused)?;
         let f = word(card, 0, 2) + 4 + word(card, 0, 3);
         let sum = f + clear + sectors(&files);
         if number != 0 || count as usize != files.len() || sum != word(card, 0, 1) {

@@ -4,19 +4,21 @@ use super::directory::{last_words_zero, Entry, Stamp, StoredName, Version};
 use super::image::{bit, table_word, word, Geometry, MOST_SECTORS, SECTOR_WORDS};
 use super::TOP;
 
-/// One line of a list: a file's name, bytes, start and sectors.
+/// One line of a list: a file's name, start, sectors and bytes, laid out as it
+/// crosses to C.
+#[repr(C)]
 #[derive(Clone, Copy, Debug, Default, PartialEq, Eq)]
 pub struct Line {
     /// The length of the name.
     pub length: u32,
     /// The name's bytes; the unused ones are 0.
     pub name: [u8; 32],
-    /// The file's bytes.
-    pub bytes: u32,
-    /// Its first sector, 0 for a file of 0 bytes.
+    /// The file's first sector, 0 for a file of 0 bytes.
     pub start: u32,
     /// Its sectors.
     pub sectors: u32,
+    /// Its bytes.
+    pub bytes: u32,
 }
 
 impl Line {

@@ -9,6 +9,8 @@ static uint8_t work[10 * STORE_SECTOR];
 static uint8_t session[STORE_SESSION_BYTES];
 static uint8_t report[STORE_REPORT_BYTES];
 static uint8_t content[513];
+static struct store_line lines[3];
+static struct store_answer answer;
 
 #define MUST(call, number) \
     do { \
@@ -23,8 +25,19 @@ static uint32_t put(const char *name, size_t bytes)
                      bytes);
 }
 
+/* Whether a line is a file of 513 bytes with this name and start. */
+static int shows(const struct store_line *line, const char *name, uint32_t start)
+{
+    uint8_t padded[32] = {0};
+    memcpy(padded, name, strlen(name));
+    return line->size == strlen(name) && memcmp(line->name, padded, 32) == 0
+        && line->run.start == start && line->run.sectors == 2 && line->run.bytes == 513;
+}
+
 int main(void)
 {
+    MUST(sizeof lines, 3 * 48);
+    memset(lines, 0xEE, sizeof lines);
     MUST(store_make(6, 1, 1, card, 6 * STORE_SECTOR), STORE_BAD_GEOMETRY);
     MUST(store_make(10, 1, 1, card, sizeof card), STORE_DONE);
     MUST(put("left", 513), STORE_CLOSED);
@@ -36,6 +49,18 @@ int main(void)
     MUST(store_read(card, sizeof card, report), STORE_DONE);
     MUST(report[8], 0);
     MUST(report[12], 4);
+    answer = store_list(session, work, sizeof work, lines, 1);
+    MUST(answer.number, STORE_SHORT_OUTPUT);
+    MUST(answer.count, 0);
+    MUST(lines[0].size, 0xEEEEEEEE);
+    answer = store_list(session, work, sizeof work, lines, 2);
+    MUST(answer.number, STORE_DONE);
+    MUST(answer.count, 2);
+    MUST(shows(&lines[0], "left", 6), 1);
+    MUST(shows(&lines[1], "left_arm", 8), 1);
+    answer = store_read_list(card, sizeof card, lines, 0);
+    MUST(answer.number, STORE_DONE);
+    MUST(answer.count, 0);
     MUST(store_land(session, card, sizeof card, work, sizeof work, 6), STORE_DONE);
     MUST(store_land(session, card, sizeof card, work, sizeof work, 10), STORE_NO_SECTOR);
     MUST(store_sync(session, card, sizeof card, work, sizeof work), STORE_DONE);
@@ -44,5 +69,13 @@ int main(void)
     MUST(report[4], 128);
     MUST(report[8], 2);
     MUST(report[12], 0);
+    memset(lines, 0xEE, sizeof lines);
+    answer = store_read_list(card, sizeof card, lines, 3);
+    MUST(answer.number, STORE_DONE);
+    MUST(answer.count, 2);
+    MUST(shows(&lines[0], "left", 6), 1);
+    MUST(shows(&lines[1], "left_arm", 8), 1);
+    MUST(lines[2].size, 0xEEEEEEEE);
+    MUST(lines[2].run.bytes, 0xEEEEEEEE);
     return 0;
 }

@@ -1,6 +1,6 @@
 //! Stores that are wrong on purpose. Most look right until a cut.
 
-use bench::host::{ReportBytes, SessionBytes};
+use bench::host::{Answer, ReportBytes, SessionBytes};
 use bench::plain::steps::Step;
 use bench::plain::{self, set_word, word, Line, Session, SECTOR};
 use bench::store::{Plain, Steps, Store};
@@ -24,6 +24,10 @@ pub enum Wrong {
     MakesUpFree,
     /// Mount says 0 where it should say 2.
     Says2As0,
+    /// List clears the line after the last that it counts.
+    ListsPast,
+    /// A list with one file more than lines leaves it out and says 0.
+    ListsShort,
 }
 
 impl Store for Wrong {
@@ -75,6 +79,14 @@ impl Store for Wrong {
         Plain.land(session, card, work, beside)
     }
 
+    fn read_list(&self, card: &[u8], lines: &mut [Line]) -> Answer {
+        self.wrong_list(lines, |lines| Plain.read_list(card, lines))
+    }
+
+    fn list(&self, session: &SessionBytes, work: &[u8], lines: &mut [Line]) -> Answer {
+        self.wrong_list(lines, |lines| Plain.list(session, work, lines))
+    }
+
     fn sync_steps(&self, session: &SessionBytes, card: &[u8], work: &[u8]) -> Steps {
         let mut list = Plain.sync_steps(session, card, work)?;
         if *self == Wrong::TableFirst {
@@ -83,6 +95,29 @@ impl Store for Wrong {
             list.insert(0, table);
         }
         Ok(list)
+    }
+}
+
+impl Wrong {
+    /// A list, wrong for two of the stores.
+    fn wrong_list(&self, lines: &mut [Line], list: impl Fn(&mut [Line]) -> Answer) -> Answer {
+        let mut answer = list(lines);
+        if *self == Wrong::ListsPast && answer.number == 0 {
+            if let Some(line) = lines.get_mut(answer.count as usize) {
+                *line = Line::default();
+            }
+        }
+        if *self == Wrong::ListsShort && answer.number == 10 {
+            let mut longer = vec![Line::default(); lines.len() + 1];
+            if list(&mut longer).number == 0 {
+                lines.copy_from_slice(&longer[..lines.len()]);
+                answer = Answer {
+                    number: 0,
+                    count: lines.len() as u32,
+                };
+            }
+        }
+        answer
     }
 }
 
