@@ -1,7 +1,7 @@
 //! The cards that are measured, and the calls on them.
 
 use crate::host::SessionBytes;
-use crate::plain::{self, Session, SECTOR};
+use crate::plain::{self, Line, Session, SECTOR};
 use crate::store::Store;
 
 /// S, T and D.
@@ -21,10 +21,12 @@ pub enum Call {
     Land,
     /// A land of sector S, which is refused with 11 after the fit test.
     Fit,
+    List,
+    ReadList,
 }
 
 /// All of them, in the order of the tables.
-pub const CALLS: [Call; 9] = [
+pub const CALLS: [Call; 11] = [
     Call::Make,
     Call::Read,
     Call::Mount,
@@ -34,6 +36,8 @@ pub const CALLS: [Call; 9] = [
     Call::Sync,
     Call::Land,
     Call::Fit,
+    Call::List,
+    Call::ReadList,
 ];
 
 impl Call {
@@ -47,6 +51,8 @@ impl Call {
             Call::Sync => "sync".into(),
             Call::Land => "land".into(),
             Call::Fit => "land, no such sector".into(),
+            Call::List => "list".into(),
+            Call::ReadList => "reading's list".into(),
         }
     }
 }
@@ -60,6 +66,8 @@ pub struct Bed {
     pub session: SessionBytes,
     /// The name that puts use.
     pub name: Vec<u8>,
+    /// The table that lists fill: a line for every entry.
+    pub lines: Vec<Line>,
 }
 
 impl Bed {
@@ -77,6 +85,7 @@ impl Bed {
             card,
             session: Session::Closed.encode(),
             name: name_of(name),
+            lines: vec![Line::default(); entries],
         };
         if full {
             bed.fill(entries, s - (t + 4 + d));
@@ -106,7 +115,7 @@ impl Bed {
 
     /// Session calls start after a mount; sync and land after a put as well.
     fn mount_for(&mut self, call: Call) {
-        if matches!(call, Call::Make | Call::Read | Call::Mount) {
+        if matches!(call, Call::Make | Call::Read | Call::Mount | Call::ReadList) {
             return;
         }
         let (_, session) = plain::mount(&mut self.card, &mut self.work);
@@ -135,6 +144,11 @@ impl Bed {
             Call::Sync => store.sync(&mut self.session, &mut self.card, &mut self.work),
             Call::Land => store.land(&self.session, &mut self.card, &self.work, t + 4 + d),
             Call::Fit => store.land(&self.session, &mut self.card, &self.work, s),
+            Call::List => {
+                let lines = &mut self.lines;
+                store.list(&self.session, &self.work, lines).number
+            }
+            Call::ReadList => store.read_list(&self.card, &mut self.lines).number,
         }
     }
 }

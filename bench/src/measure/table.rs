@@ -63,9 +63,9 @@ fn machine() -> String {
         "{}, {cores} cores.\n\n\
          Times are medians in nanoseconds. Before each timed call both images and the session\n\
          are copied afresh from a template: no buffer is cleared, and all are as warm as the\n\
-         cache allows. The proved store and the plain version take turns within one run. The\n\
-         clock's own {} ns are taken off. Stack is in bytes from the caller's frame down; a\n\
-         call that does nothing reads {}.\n",
+         cache allows. A list has a table with a line for every entry. The proved store and\n\
+         the plain version take turns within one run. The clock's own {} ns are taken off.\n\
+         Stack is in bytes from the caller's frame down; a call that does nothing reads {}.\n",
         model.unwrap_or("unknown processor"),
         clock(),
         stack::floor()
