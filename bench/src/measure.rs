@@ -1,4 +1,4 @@
-//! Times and stack of the six calls of the proved store beside the plain
+//! Times and stack of the proved store's calls for a host beside the plain
 //! version, as tables.
 
 mod bed;

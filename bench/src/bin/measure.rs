@@ -1,4 +1,4 @@
-//! Prints the measurements of the six host functions beside the plain
+//! Prints the measurements of the functions for a host beside the plain
 //! version: `measure`; `measure PAGE` puts them into a page instead, between
 //! its marks.
 

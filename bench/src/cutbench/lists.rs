@@ -4,7 +4,7 @@ use super::files::Files;
 use super::summary::Call;
 use super::world::{Outcome, World};
 use crate::host::Answer;
-use crate::plain::{Line, CLOSED, DONE, SECTOR, SHORT_OUTPUT};
+use crate::plain::{Line, Session, DONE, SECTOR, SHORT_OUTPUT};
 
 /// What every line holds before a call.
 const RUBBISH: Line = Line {
@@ -67,8 +67,10 @@ impl World<'_> {
         })?;
         let lines = same(&both[0], &both[1])?;
         match &self.track {
-            Some(track) => must_be(&track.present, both[0].answer.number, length, lines),
-            None => Ok(()),
+            Some(track) if self.session() != Session::Closed => {
+                must_be(&track.present, both[0].answer.number, length, lines)
+            }
+            _ => Ok(()),
         }
     }
 
@@ -106,17 +108,17 @@ fn same<'a>(one: &'a Listed, other: &Listed) -> Outcome<&'a [Line]> {
     }
 }
 
-/// A list of known files is refused just where they are too many or the
-/// session is closed, and else has each of them once.
+/// A list of known files is refused just where they are too many, and else has
+/// each of them once.
 fn must_be(files: &Files, number: u32, length: usize, lines: &[Line]) -> Outcome {
     let right = match number {
-        CLOSED => true,
         SHORT_OUTPUT => length < files.len(),
-        _ => {
+        DONE => {
             let names: Vec<&[u8]> = lines.iter().map(Line::used_name).collect();
             let all = files.keys().all(|name| names.contains(&&name[..]));
             all && lines.len() == files.len() && lines.iter().all(|line| fits(files, line))
         }
+        _ => false,
     };
     if right {
         return Ok(());
