@@ -1,15 +1,13 @@
 -- "The starred cases are one table with one proof over the definitions". Assumes nothing.
 use mathlib.Core.Path.{_≡_, refl}
-use mathlib.Core.Bool.{Bool, true, false, cond, _&&_, _||_}
-use mathlib.Core.List.{List, [], _∷_, _++_}
-use Prim.Native.Nat.{ℕ, _*_}
-use lib.ListN.{take, drop, replicate}
-use lib.Dec.{eqb}
+use mathlib.Core.Bool.{true}
+use mathlib.Core.List.{List, [], _∷_}
+use Prim.Native.Nat.{ℕ}
+use lib.ListN.{replicate}
 use Rattle.sums.specs.Sums.{inRun}
 use Rattle.words.specs.Lists.{every, pairwise, firstAt, eqList, part, over, splice, setPart, pad}
 use Rattle.words.specs.Bytes.{wordAt, words, wordBytes}
 use Rattle.sectors.specs.Sectors.{sec, setSec, applySteps, copySteps}
-use Rattle.counts.specs.declared.Geo.{Geo}
 use Rattle.counts.specs.Geometry.{gN, gF, geoOk, countOf, geoOf, tableFrom, tableOf}
 use Rattle.counts.specs.Stamps.{stampOf, alive, showing, stampOk, deadBelow, tableOk, tableIn, asIs, sameStamp, standing, becomesOld}
 use Rattle.entries.specs.Entries.{versionOf, versionBytes, newOf, oldOf, nameBytes, entryOf, entryBytes, shownBytes, shown, goodName, nameOf, nameOk, sectorsFor, runOk, versionOk, entryOk, changed}
@@ -17,16 +15,11 @@ use Rattle.directory.specs.Directory.{sectorEntries, entriesFrom, entriesOf, sp
 use Rattle.apages.specs.Bits.{bitAt, putDigit, putBit, setRun, bitsN, bitsOf, clearIn, clearBits}
 use Rattle.apages.specs.Runs.{merge, allClear, findRun, lowestRun, runFor, outside, wanted, bitsOk, bytesToS, pageOk, freshPage}
 use Rattle.apages.specs.Index.{indexOf, indexBytes, indexIn, pairOk, indexOk, shownPage, pageIn, changedIndex, pageBefore, changedPages, changeBits}
-use Rattle.card.specs.declared.Line.{Line}
-use Rattle.card.specs.declared.Answer.{Answer}
-use Rattle.card.specs.declared.Report.{Report}
 use Rattle.card.specs.Plan.{guard, need, ended, refused, done}
 use Rattle.card.specs.Files.{consFile, filesOf, cover, contentOf, runOf, runAt, getPlan, getEnd, listPlan, listEnd}
 use Rattle.card.specs.Sound.{viewOk, soundIn, shapeOk, sound}
 use Rattle.card.specs.Make.{blockBytes, freshIndex, freshCard, makePlan, make}
 use Rattle.card.specs.Reading.{filesIn, filesShown, pageShown, readPlan, read, readList, readGet}
-use Rattle.session.specs.declared.Session.{Session}
-use Rattle.session.specs.declared.Session.the-variants.{Closed, Open}
 use Rattle.session.specs.Views.{ownStamp, presentView, presentTable, cutTable, presentPage, cutPage, presentFiles, sessionFiles}
 use Rattle.session.specs.Fits.{sizesOk, headOk, wordOk, stampAtMost, entryAtMost, fitsIn, fits}
 use Rattle.store.specs.Steps.{setCount, setWord, tableSector, mountSteps, syncSteps, atTop, downSteps, unmountStepsBy, unmountSteps, syncWork, downWork, unmountWorkBy, unmountWork}
@@ -34,113 +27,7 @@ use Rattle.store.specs.Mount.{mountPlan, openedFrom, mountDone, mount}
 use Rattle.store.specs.Edit.{orElse, putPlace, placeIn, runIn, putPlan, putContent, editWork, putRun, putWork, put, removePlan, removeWork, remove}
 use Rattle.store.specs.Look.{get, list, free}
 use Rattle.store.specs.Sync.{bothPlan, land, grown, syncDone, sync, unmountDone, unmount}
-
--- ---- what a line of the sheet does, and what it says of it
-
--- a call gives the number at its end, and a refusal or a call that counts nothing the count 0
-pub data Act : Type 0 where
-  -- make with S sectors (T = 1, D = 1) on an image of that length
-  makes : ℕ → ℕ → Act
-  mounts : ℕ → Act
-  -- put of so many bytes 7 under a name
-  puts : List ℕ → ℕ → ℕ → Act
-  removes : List ℕ → ℕ → Act
-  -- get into an output of so many bytes 9: the number and the count; that many bytes 7, and the rest as lent
-  gets : List ℕ → ℕ → ℕ → ℕ → Act
-  -- the clear bits of the present view
-  frees : ℕ → Act
-  syncs : ℕ → Act
-  -- land of a sector
-  lands : ℕ → ℕ → Act
-  unmounts : ℕ → Act
-  -- the power is cut: the card stays as it is
-  cuts : Act
-  -- sync takes so many of its steps, and the power is cut
-  syncCuts : ℕ → Act
-  -- the session lists the name with so many bytes, this start and so many sectors
-  shows : List ℕ → ℕ → ℕ → ℕ → Act
-  -- reading the card: C, the file count and the clear bits
-  reads : ℕ → ℕ → ℕ → Act
-  -- reading the card lists the name with so many bytes, this start and so many sectors
-  readsLine : List ℕ → ℕ → ℕ → ℕ → Act
-  -- reading the card is refused
-  refuses : ℕ → Act
-  -- word C of the card is this
-  counts : ℕ → Act
-  -- word C of the card, a table word of it, the stamp of its first entry is made this
-  sets : ℕ → Act
-  tops : ℕ → ℕ → Act
-  stamps : ℕ → ℕ → Act
-
-pub record Bench : Type 0 where
-  pub session : Session
-  pub card : List ℕ
-  pub work : List ℕ
-
-abbrev pub geoFor : ℕ → Geo
-geoFor s = record { s = s; t = 1; d = 1 }
-
-unfoldable pub sameLine : List ℕ → ℕ → ℕ → ℕ → Line → Bool
-sameLine n b a k l = eqList n (take (l .size) (l .name)) && eqb b (l .run .bytes) && eqb a (l .run .start .0) && eqb k (l .run .sectors)
-
-unfoldable pub hasLine : List ℕ → ℕ → ℕ → ℕ → List Line → Bool
-unfolding sameLine
-hasLine n b a k [] = false
-hasLine n b a k (l ∷ ls) = sameLine n b a k l || hasLine n b a k ls
-
-unfoldable pub isAnswer : ℕ → ℕ → Answer → Bool
-isAnswer k n a = eqb k (a .number) && eqb n (a .count)
-
-unfoldable pub isReport : ℕ → ℕ → ℕ → ℕ → Report → Bool
-isReport k c f n r = eqb k (r .number) && eqb c (r .c) && eqb f (r .files) && eqb n (r .free)
-
--- the card after the first n steps of a sync
-unfoldable pub stepsDone : Session → ℕ → List ℕ → List ℕ → List ℕ
-stepsDone Closed n card work = card
-stepsDone (Open s) n card work = applySteps (take n (syncSteps s work [])) card
-
--- the acts of one case in order: each gives what the line says, or the case fails
-unfoldable pub run : Bench → List Act → Bool
-unfolding hasLine isAnswer isReport stepsDone
-run w [] = true
-run w (makes s k ∷ acts) =
-    let r = make (geoFor s) (replicate (512 * s) 5) in
-    cond (isAnswer k 0 (r .answer)) (run (record { session = Closed; card = r .image; work = r .image }) acts) false
-run w (mounts k ∷ acts) =
-    let r = mount (w .card) (w .work) in cond (isAnswer k 0 (r .answer)) (run (record { session = r .session; card = r .card; work = r .work }) acts) false
-run w (puts n b k ∷ acts) =
-    let r = put (w .session) (w .work) n (replicate b 7) in
-    cond (isAnswer k 0 (r .answer)) (run (record { session = w .session; card = w .card; work = r .image }) acts) false
-run w (removes n k ∷ acts) =
-    let r = remove (w .session) (w .work) n in
-    cond (isAnswer k 0 (r .answer)) (run (record { session = w .session; card = w .card; work = r .image }) acts) false
-run w (gets n l k b ∷ acts) =
-    let r = get (w .session) (w .work) n (replicate l 9) in
-    cond (isAnswer k b (r .answer) && eqList (r .out) (replicate b 7 ++ drop b (replicate l 9))) (run w acts) false
-run w (frees n ∷ acts) = cond (isAnswer 0 n (free (w .session) (w .work))) (run w acts) false
-run w (syncs k ∷ acts) =
-    let r = sync (w .session) (w .card) (w .work) in
-    cond (isAnswer k 0 (r .answer)) (run (record { session = r .session; card = r .card; work = r .work }) acts) false
-run w (lands i k ∷ acts) =
-    let r = land (w .session) (w .card) (w .work) i in
-    cond (isAnswer k 0 (r .answer)) (run (record { session = w .session; card = r .image; work = w .work }) acts) false
-run w (unmounts k ∷ acts) =
-    let r = unmount (w .session) (w .card) (w .work) in
-    cond (isAnswer k 0 (r .answer)) (run (record { session = r .session; card = r .card; work = r .work }) acts) false
-run w (cuts ∷ acts) = run (record { session = Closed; card = w .card; work = w .card }) acts
-run w (syncCuts n ∷ acts) =
-    let k = stepsDone (w .session) n (w .card) (w .work) in run (record { session = Closed; card = k; work = k }) acts
-run w (shows n b a k ∷ acts) = cond (hasLine n b a k (sessionFiles (w .session) (w .work))) (run w acts) false
-run w (reads c f n ∷ acts) = cond (isReport 0 c f n (read (w .card))) (run w acts) false
-run w (readsLine n b a k ∷ acts) = cond (hasLine n b a k (filesShown (w .card))) (run w acts) false
-run w (refuses k ∷ acts) = cond (isReport k 0 0 0 (read (w .card))) (run w acts) false
-run w (counts c ∷ acts) = cond (eqb c (countOf (sec (w .card)))) (run w acts) false
-run w (sets c ∷ acts) = run (record { session = w .session; card = setCount c (w .card); work = w .work }) acts
-run w (tops c t ∷ acts) = run (record { session = w .session; card = setWord c t (w .card); work = w .work }) acts
-run w (stamps c t ∷ acts) =
-    run (record { session = w .session; card = splice (w .card) (512 * 5) (wordBytes c ++ wordBytes t); work = w .work }) acts
-
--- ---- the sheet
+use Rattle.bench_sheet.specs.Acts.{Act, makes, mounts, puts, removes, gets, frees, syncs, lands, unmounts, cuts, syncCuts, shows, reads, readsLine, refuses, counts, sets, tops, stamps, sameLine, hasLine, isAnswer, isReport, stepsDone, run, all}
 
 abbrev pub a : List ℕ
 a = 97 ∷ []
@@ -206,11 +93,6 @@ others =
     ∷ ten (puts a 513 0 ∷ gets a 513 0 513 ∷ gets a 515 0 513 ∷ [])
     ∷ ten (puts a 513 0 ∷ gets a 512 10 0 ∷ gets b 512 6 0 ∷ [])
     ∷ []
-
-unfoldable pub all : List (List Act) → Bool
-unfolding run
-all [] = true
-all (x ∷ xs) = run (record { session = Closed; card = []; work = [] }) x && all xs
 
 -- every starred line of the bench sheet holds
 pub sheet : all starred ≡ true

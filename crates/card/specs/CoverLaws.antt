@@ -1,28 +1,24 @@
 -- The sectors of the files that a view shows, entry by entry. Assumes nothing.
 use mathlib.Core.Path.{_≡_, refl}
 use mathlib.Core.Logic.{⊎-elim}
-use mathlib.Core.Bool.{Bool, true, false, cond, _&&_, _||_}
+use mathlib.Core.Bool.{true}
 use mathlib.Core.List.{List, []}
 use Prim.Native.Nat.{ℕ, suc, _+_, _≤_, _<_}
 use native.Mathlib.Numerals.{add-one}
 use native.Mathlib.Omega.{arith}
-use borrow.Author.Tests.{eqb-true, leb-true}
-use lib.Dec.{leb, eqb}
 use lib.ListN.{length, drop, getD, drop-of-length-le}
 use lib.Seq.{drop-cons}
 use Rattle.sums.specs.Sums.{inRun}
 use Rattle.sums.specs.SumLaws.{place}
-use Rattle.words.specs.Lists.{every, isZero}
-use Rattle.words.specs.BoolLaws.{both}
+use Rattle.words.specs.Lists.{every}
 use Rattle.words.specs.EveryLaws.{every-at}
-use Rattle.words.specs.Bytes.{wordAt}
 use Rattle.counts.specs.declared.Geo.{Geo}
 use Rattle.counts.specs.Geometry.{gF}
-use Rattle.counts.specs.Stamps.{stampOf, stampOk, deadBelow}
 use Rattle.entries.specs.declared.Run.{Run}
 use Rattle.entries.specs.declared.Version.{Version}
 use Rattle.entries.specs.declared.Version.the-variants.{Absent, Present}
-use Rattle.entries.specs.Entries.{versionOf, shown, shownBytes, isAbsent, nameOk, nameBytes, sectorsFor, runOk, versionOk, entryOk}
+use Rattle.entries.specs.Entries.{versionOf, shown, shownBytes, sectorsFor, runOk, entryOk}
+use Rattle.entries.specs.PassLaws.{passes, run-is, version-run}
 use Rattle.card.specs.declared.Line.{Line}
 use Rattle.card.specs.Files.{consFile, filesOf, cover, runOf}
 
@@ -34,57 +30,22 @@ sectorsIn v = runOf v .sectors
 
 -- ---- a run that is well formed
 
-module _ (g : Geo) (r : Run) (ok : runOk g r ≡ true) where
-  run-place : cond (isZero (r .sectors)) (isZero (r .start .0)) (leb (gF g) (r .start .0) && leb (r .start .0 + r .sectors) (g .s)) ≡ true
-  unfolding runOk
-  run-place = both (eqb (r .sectors) (sectorsFor (r .bytes))) _ ok .1
-
-  -- it is empty, or it lies inside the data
-  pub run-data : (n : ℕ) → r .start .0 ≤ n → n < r .start .0 + r .sectors → (gF g ≤ n) × (n < g .s)
-  run-data n h k = go (isZero (r .sectors)) refl run-place
-    where
-      go : (b : Bool) → isZero (r .sectors) ≡ b → cond b (isZero (r .start .0)) (leb (gF g) (r .start .0) && leb (r .start .0 + r .sectors) (g .s)) ≡ true
-          → (gF g ≤ n) × (n < g .s)
-      go true z p = let e : r .sectors ≡ 0 = eqb-true _ _ z in absurd (omega arith)
-      go false z p =
-          let w = both (leb (gF g) (r .start .0)) (leb (r .start .0 + r .sectors) (g .s)) p in
-          let a : gF g ≤ r .start .0 = leb-true _ _ (w .0) in
-          let c : r .start .0 + r .sectors ≤ g .s = leb-true _ _ (w .1) in (omega arith, omega arith)
-
-  pub run-room : r .start .0 + r .sectors ≤ g .s
-  run-room = go (isZero (r .sectors)) refl run-place
-    where
-      go : (b : Bool) → isZero (r .sectors) ≡ b → cond b (isZero (r .start .0)) (leb (gF g) (r .start .0) && leb (r .start .0 + r .sectors) (g .s)) ≡ true
-          → r .start .0 + r .sectors ≤ g .s
-      go true z p =
-          let e : r .sectors ≡ 0 = eqb-true _ _ z in
-          let f : r .start .0 ≡ 0 = eqb-true _ _ p in omega arith
-      go false z p = leb-true _ _ (both (leb (gF g) (r .start .0)) (leb (r .start .0 + r .sectors) (g .s)) p .1)
+-- it is empty, or it lies inside the data
+pub run-data : (g : Geo) (r : Run) → runOk g r ≡ true → (n : ℕ) → r .start .0 ≤ n → n < r .start .0 + r .sectors → (gF g ≤ n) × (n < g .s)
+run-data g r ok n h k = let w = run-is g r ok .span (omega arith) in (omega (arith, w .0), omega (arith, w .1))
 
 none-run : (g : Geo) → runOk g (runOf Absent) ≡ true
 unfolding runOk runOf sectorsFor
 none-run g = refl
 
-version-run : (g : Geo) (v : List ℕ) → versionOk g v ≡ true → runOk g (runOf (versionOf v)) ≡ true
-unfolding versionOf versionOk runOf
-version-run g v h = go (isZero (wordAt v 0)) h
-  where
-    r : Run
-    r = record { start = record { 0 = wordAt v 4 }; sectors = wordAt v 8; bytes = wordAt v 12 }
-
-    go : (b : Bool) → cond b (isZero (wordAt v 4) && isZero (wordAt v 8) && isZero (wordAt v 12)) (eqb (wordAt v 0) 1 && runOk g r) ≡ true
-        → runOk g (runOf (cond b Absent (Present r))) ≡ true
-    go true q = none-run g
-    go false q = both (eqb (wordAt v 0) 1) (runOk g r) q .1
-
 -- what an entry that passes shows: a run that is well formed, an empty one where it shows absent
-pub shown-run : (g : Geo) (bound : ℕ) (tab p : List ℕ) → entryOk g bound tab p ≡ true → runOk g (runOf (shown tab p)) ≡ true
-unfolding entryOk shown
-shown-run g bound tab p h =
-    let a : Bool = deadBelow bound tab (stampOf p) && every isZero (drop 76 p) in
-    let v : Bool = versionOk g (shownBytes tab p) in
-    let n : Bool = isAbsent (shown tab p) || nameOk (wordAt p 8) (nameBytes p) in
-    version-run g (shownBytes tab p) (both a v (both (a && v) n (both (stampOk g (stampOf p)) (a && v && n) h .1) .0) .1)
+shown-run : (g : Geo) (bound : ℕ) (tab p : List ℕ) → entryOk g bound tab p ≡ true → runOk g (runOf (shown tab p)) ≡ true
+unfolding shown
+shown-run g bound tab p h = go (versionOf (shownBytes tab p)) refl
+  where
+    go : (v : Version) → versionOf (shownBytes tab p) ≡ v → runOk g (runOf v) ≡ true
+    go Absent e = none-run g
+    go (Present r) e = unfold runOf in version-run g (shownBytes tab p) (passes g bound tab p h .wf) e
 
 -- every entry shows a run that is well formed
 abbrev pub RunsOk : Geo → List ℕ → List (List ℕ) → Type 0

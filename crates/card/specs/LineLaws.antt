@@ -22,11 +22,12 @@ use Rattle.entries.specs.declared.Run.{Run}
 use Rattle.entries.specs.declared.Version.{Version}
 use Rattle.entries.specs.declared.Version.the-variants.{Absent, Present}
 use Rattle.entries.specs.Entries.{shown, isAbsent, nameBytes, sectorsFor, runOk}
+use Rattle.entries.specs.PassLaws.{run-room, run-is}
 use Rattle.directory.specs.Directory.{entriesOf}
 use Rattle.directory.specs.DirectoryLaws.{placeOf, entry-at, entries-lt}
 use Rattle.card.specs.declared.Line.{Line}
 use Rattle.card.specs.Files.{consFile, filesOf, runOf, runAt, contentOf, noLine}
-use Rattle.card.specs.CoverLaws.{RunsOk, run-room}
+use Rattle.card.specs.CoverLaws.{RunsOk}
 
 -- 1 where an entry shows a file, else 0
 unfoldable pub shows : List ℕ → List ℕ → ℕ
@@ -133,7 +134,7 @@ unfolding runOk sectorsFor
 content-room g r ok =
     let e : r .sectors ≡ (r .bytes + 511) / 512 =
     eqb-true _ _ (both (eqb (r .sectors) ((r .bytes + 511) / 512)) (cond (isZero (r .sectors)) (isZero (r .start .0)) (leb (gF g) (r .start .0) && leb (r .start .0 + r .sectors) (g .s))) ok .0) in
-    omega (arith, run-room g r ok)
+    omega (arith, run-room g r (run-is g r ok))
 
 pub room-here : (g : Geo) (tab img : List ℕ) (j : ℕ) (r : Run) → RunsOk g tab (entriesOf g (sec img)) → j < 4 * g .d → length img ≡ 512 * g .s → r ≡ runAt g tab img j
     → 512 * r .start .0 + r .bytes ≤ length img

@@ -18,13 +18,14 @@ use Rattle.counts.specs.declared.Geo.{Geo}
 use Rattle.counts.specs.TableLaws.{InLimits}
 use Rattle.entries.specs.declared.Run.{Run}
 use Rattle.entries.specs.Entries.{shown, runOk}
+use Rattle.entries.specs.PassLaws.{run-is, run-room}
 use Rattle.apages.specs.Bits.{bitAt, setRun}
 use Rattle.apages.specs.BitLaws.{bit-lt}
 use Rattle.apages.specs.RunLaws.{setRun-length, run-out, set-run}
 use Rattle.apages.specs.Runs.{outside, wanted, pageOk, freshPage}
 use Rattle.card.specs.Files.{filesOf, cover, runOf}
 use Rattle.card.specs.Marks.{clearRun}
-use Rattle.card.specs.CoverLaws.{RunsOk, run-data, run-room, cover-next, cover-none}
+use Rattle.card.specs.CoverLaws.{RunsOk, run-data, cover-next, cover-none}
 use Rattle.card.specs.BuiltLaws.{setRun-bytes, side, page-length, fresh-bytes, fresh-bit}
 use Rattle.card.specs.PageIs.{page-is}
 use Rattle.card.specs.BitmapLaws.{page-bits}
@@ -110,7 +111,7 @@ module _ (g : Geo) (tab : List ℕ) (es : List (List ℕ)) (j : ℕ) (runs : Run
   run-ok = rw here (runs j l)
 
   pub run-fits : g .s ≤ 4096 → r .start .0 + r .sectors ≤ 4096
-  run-fits lim = omega (arith, run-room g r run-ok)
+  run-fits lim = omega (arith, run-room g r (run-is g r run-ok))
 
 module _ (g : Geo) (tab : List ℕ) (es : List (List ℕ)) (j : ℕ) (m : List ℕ) (lim : g .s ≤ 4096) (runs : RunsOk g tab es) (l : j < length es)
     (r : Run) (here : r ≡ runOf (shown tab (getD es j []))) (k : Marked g tab es m j) {b : Bool} (e : b ≡ clearRun m (r .start .0) (r .sectors)) where
@@ -121,7 +122,7 @@ module _ (g : Geo) (tab : List ℕ) (es : List (List ℕ)) (j : ℕ) (m : List �
   share n = rw here (cover-next tab es j n l)
 
   inside : r .start .0 + r .sectors ≤ 8 * length m
-  inside = omega (arith, run-room g r ok, k .size)
+  inside = omega (arith, run-room g r (run-is g r ok), k .size)
 
   -- the run was clear, and is marked
   pub marked-go : {x : List ℕ} → not b ≡ false → x ≡ setRun m (r .start .0) (r .sectors) 1 → Marked g tab es x (j + 1)
@@ -145,7 +146,7 @@ module _ (g : Geo) (tab : List ℕ) (es : List (List ℕ)) (j : ℕ) (m : List �
       twice : (i : ℕ) → r .start .0 ≤ i → i < r .start .0 + r .sectors → bitAt m i ≡ 1 → pageOk g (cover (filesOf tab es)) p ≡ true → false ≡ true
       twice i u v t q =
           let o : outside g i ≡ false = in-data g r ok i u v in
-          let h : i < 4096 = omega (arith, run-room g r ok) in
+          let h : i < 4096 = omega (arith, run-room g r (run-is g r ok)) in
           let w : bitAt p i ≡ cover (filesOf tab es) i = page-bits g (cover (filesOf tab es)) p (omega (arith, s)) q i (omega (arith, s)) ∙ wanted-in g (cover (filesOf tab es)) i o in
           let z : inRun (r .start .0) (r .sectors) i ≡ 1 = ⊎-elim (λ x. absurd (omega arith)) (⊎-elim (λ x. x .2) (λ x. absurd (omega arith))) (place (r .start .0) (r .sectors) i) in
           absurd (omega (arith, bit-lt p i, k .sum i h o, share i))

@@ -1,11 +1,27 @@
--- Plans: what one that goes through says of its tests, that a refusal's number is not 0, and what holds of the end. Assumes nothing.
-use mathlib.Core.Path.{_≡_, refl}
+-- Plans: a test that fails or passes, what one that goes through says of its tests, that a refusal's number is not 0, and what holds of the end. Assumes nothing.
+use mathlib.Core.Path.{_≡_, refl, ap}
 use mathlib.Core.Bool.{Bool, true, false}
 use Prim.Native.Nat.{ℕ, suc}
 use Rattle.words.specs.declared.Found.{Found}
 use Rattle.words.specs.declared.Found.the-variants.{At, Nowhere}
 use Rattle.words.specs.BoolLaws.{never}
 use Rattle.card.specs.Plan.{Plan, refuse, doIt, guard, need, ended}
+
+pub guard-no : (k : ℕ) (p : Plan) {b : Bool} → b ≡ false → guard k b p ≡ refuse k
+unfolding guard
+guard-no k p e = ap (λ (b : Bool). guard k b p) e
+
+pub guard-yes : (k : ℕ) (p : Plan) {b : Bool} → b ≡ true → guard k b p ≡ p
+unfolding guard
+guard-yes k p e = ap (λ (b : Bool). guard k b p) e
+
+pub need-no : (k : ℕ) (f : ℕ → Plan) {x : Found} → x ≡ Nowhere → need k x f ≡ refuse k
+unfolding need
+need-no k f e = ap (λ (x : Found). need k x f) e
+
+pub need-yes : (k : ℕ) (f : ℕ → Plan) {x : Found} {i : ℕ} → x ≡ At i → need k x f ≡ f i
+unfolding need
+need-yes k f e = ap (λ (x : Found). need k x f) e
 
 pub guard-inv : (k : ℕ) (b : Bool) (p : Plan) {j a : ℕ} → guard k b p ≡ doIt j a → (b ≡ true) × (p ≡ doIt j a)
 unfolding guard

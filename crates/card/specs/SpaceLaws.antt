@@ -1,4 +1,4 @@
--- "free sectors, sectors of present files and F add up to S": one law of a view that passes. Assumes nothing.
+-- "free sectors, sectors of present files and F add up to S": one law of a view that passes; a clear bit is one of the data, in no file. Assumes nothing.
 use mathlib.Core.Path.{_≡_, refl, sym, ap, _∙_}
 use mathlib.Core.Bool.{true}
 use mathlib.Core.List.{List, [], _∷_}

@@ -26,10 +26,8 @@ use Rattle.store.specs.Edit.{put}
 use Rattle.store.specs.Mount.{Ended, mountPlan, openedFrom, mountDone, mount}
 use Rattle.store.specs.Steps.{atTop}
 use Rattle.store.specs.Sync.{land, grown, syncDone, sync}
+use Rattle.store.specs.Plans.{both-num, mount-few, mount-good, mount-num, sync-live}
 use Rattle.promises.specs.Refusals.{refusals}
-use Rattle.promises.specs.FitHistory.{mount-good}
-use Rattle.promises.specs.StepAll.{mount-num, mount-few, sync-live}
-use Rattle.promises.specs.Steps.{both-num}
 use Rattle.crossing.specs.Crossing.{decoded, encoded, reported, kept}
 use Rattle.crossing.specs.SessionBytes.{InWords, closed-back, opened-back, closed-zeros}
 

@@ -28,7 +28,7 @@ use Rattle.session.specs.Views.{cutTable, presentPage, cutPage}
 use Rattle.session.specs.FitLaws.{Fit, fit-inv, present-live}
 use Rattle.store.specs.Edit.{putPlace, placeIn, runIn, putPlan, putRun, putWork, put, removePlan, removeWork, remove}
 use Rattle.store.specs.PlaceLaws.{Named, name-found, place-named}
-use Rattle.store.specs.EditPlans.{put-inv, put-num, remove-inv, remove-num}
+use Rattle.store.specs.Plans.{put-inv, put-num, remove-inv, remove-num}
 use Rattle.promises.specs.PlainList.{without, With, shownIn}
 use Rattle.promises.specs.Alone.{place-alone, found-alone}
 use Rattle.promises.specs.Ready.{tcOf, tpOf, entryAt, cut, pres}

@@ -31,7 +31,7 @@ use Rattle.session.specs.Views.{cutTable, presentTable, presentPage, cutPage}
 use Rattle.session.specs.FitLaws.{Fit, fit-inv, present-live}
 use Rattle.store.specs.Edit.{putPlace, placeIn, runIn, putPlan, putRun, removePlan}
 use Rattle.store.specs.PlaceLaws.{Named, name-found, place-named}
-use Rattle.store.specs.EditPlans.{put-inv, remove-inv}
+use Rattle.store.specs.Plans.{put-inv, remove-inv}
 use Rattle.promises.specs.Ready.{tcOf, tpOf, entryAt, cut, pres, Ready}
 
 -- ---- a plan that goes through makes the change ready

@@ -24,7 +24,7 @@ use Rattle.session.specs.FitLaws.{Fit, fit-inv, present-live}
 use Rattle.store.specs.Edit.{putPlan, putRun, putWork, removePlan, removeWork}
 use Rattle.store.specs.Steps.{setWord, tableSector, syncWork}
 use Rattle.store.specs.PlaceLaws.{name-found, place-named}
-use Rattle.store.specs.EditPlans.{put-inv, remove-inv}
+use Rattle.store.specs.Plans.{put-inv, remove-inv}
 use Rattle.promises.specs.Alone.{place-alone, found-alone}
 use Rattle.promises.specs.Ready.{tcOf, tpOf, hc, cut, pres}
 use Rattle.promises.specs.Calls.{put-ready, remove-ready}

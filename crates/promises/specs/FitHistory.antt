@@ -5,13 +5,11 @@ use mathlib.Core.List.{List, []}
 use Prim.Native.Nat.{ℕ, _<_}
 use native.Mathlib.Omega.{arith}
 use borrow.Author.Tests.{eqb-true}
-use Rattle.words.specs.BoolLaws.{both}
 use Rattle.sectors.specs.Sectors.{applySteps}
 use Rattle.counts.specs.declared.Geo.{Geo}
 use Rattle.counts.specs.Stamps.{maxTx}
-use Rattle.card.specs.Plan.{doIt, refused, done, Changed}
-use Rattle.card.specs.PlanLaws.{go!, guard-inv, guard-num}
-use Rattle.card.specs.Sound.{shapeOk, sound}
+use Rattle.card.specs.Plan.{refused, done, Changed}
+use Rattle.card.specs.PlanLaws.{go!, guard-num}
 use Rattle.card.specs.Make.{make}
 use Rattle.session.specs.declared.Opened.{Opened}
 use Rattle.session.specs.declared.Session.{Session}
@@ -19,15 +17,15 @@ use Rattle.session.specs.declared.Session.the-variants.{Closed, Open}
 use Rattle.session.specs.Fits.{fits}
 use Rattle.session.specs.FitLaws.{Fit, fit-intro}
 use Rattle.store.specs.Steps.{mountSteps, syncSteps, unmountSteps, syncWork, atTop}
-use Rattle.store.specs.Mount.{Ended, mountPlan, openedFrom, mountDone, mount}
+use Rattle.store.specs.Mount.{Ended, openedFrom, mountDone, mount}
 use Rattle.store.specs.Edit.{put, remove}
 use Rattle.store.specs.Sync.{land, grown, syncDone, sync, unmountDone, unmount}
-use Rattle.store.specs.EditPlans.{put-num, remove-num}
+use Rattle.store.specs.Plans.{put-num, remove-num, both-num, make-num, mount-few, mount-good, mount-num, sync-live}
 use Rattle.promises.specs.PlainList.{Item, shownBy, shownIn}
 use Rattle.promises.specs.History.{Pending, World, Call, makeC, mountC, syncC, unmountC, putC, removeC, landC, getC, listC, freeC, play, allWritten, settled, afterCut, byNumber, endOpen, before, stepsOf, syncsBy, unmountsBy, edited, stepped, after, Reach, fresh, call, cut, cutIn}
 use Rattle.promises.specs.Inv.{mk}
-use Rattle.promises.specs.Steps.{by-plan, both-num, make-num}
-use Rattle.promises.specs.StepAll.{mount-num, mount-few, not-top, sync-live}
+use Rattle.promises.specs.Steps.{by-plan}
+use Rattle.promises.specs.StepAll.{not-top}
 use Rattle.promises.specs.FitCalm.{rest-fits, worn-fits}
 use Rattle.promises.specs.FitAll.{put-fits, remove-fits, sync-rest}
 use Rattle.promises.specs.FitMount.{mount-fits}
@@ -103,12 +101,6 @@ step-unmount (Open s) card work p m h =
     by-plan (λ (r : Ended). r .answer .number) FitW (mk card work (Open s) p m) _ _
     (λ r. mk (r .card) (r .work) (r .session) (play (byNumber (r .answer .number) (unmountSteps s work) []) p) (shownIn (Open s) work)) (λ k. refl)
     (both-num s card work (go! 0 0)) h (λ j a e. tt)
-
-pub mount-good : (card work : List ℕ) (j a : ℕ) → mountPlan card work ≡ doIt j a → (shapeOk card ≡ true) × (sound card ≡ true)
-unfolding mountPlan
-mount-good card work j a h =
-    let (x, r) = guard-inv 1 _ _ h in
-    (both (shapeOk card) _ x .0, guard-inv 2 _ _ r .0)
 
 mount-closed : (card work : List ℕ) (p : Pending) (m : List Item) → FitW (stepped (mk card work Closed p m) (mount card work) (stepsOf mountC (mk card work Closed p m)) (shownBy card))
 unfolding stepped stepsOf mount mountDone refused done byNumber

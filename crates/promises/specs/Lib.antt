@@ -19,6 +19,7 @@ pub mod Change
 pub mod Calls
 pub mod Answered
 pub mod Answers
+pub mod LookLaws
 pub mod FitParts
 pub mod FitEdit
 pub mod FitCalm

@@ -22,6 +22,7 @@ use Rattle.store.specs.Steps.{setCount, setWord, mountSteps, syncSteps, atTop, 
 use Rattle.store.specs.Mount.{Ended, mountDone, mount}
 use Rattle.store.specs.Sync.{syncDone, sync, unmountDone, unmount}
 use Rattle.store.specs.StepLaws.{up-length}
+use Rattle.store.specs.Plans.{both-inv, both-num, mount-few, mount-num, sync-live}
 use Rattle.promises.specs.PlainList.{Item}
 use Rattle.promises.specs.History.{Pending, written, newest, play, settled, Left, World, afterCut, byNumber, endOpen, before, syncsBy, unmountsBy, stepsOf, pendingIn, Call, makeC, mountC, syncC, unmountC, putC, removeC, landC, getC, listC, freeC, Reach}
 use Rattle.promises.specs.Synced.{sync-length}
@@ -29,8 +30,8 @@ use Rattle.promises.specs.Play.{written-here, written-there}
 use Rattle.promises.specs.State.{AtRest}
 use Rattle.promises.specs.Inv.{OpenInv, InvOf, Inv, mk, inv-calm, inv-reads, inv-left}
 use Rattle.promises.specs.SyncEnd.{down-length}
-use Rattle.promises.specs.Steps.{both-inv, both-num, to-live}
-use Rattle.promises.specs.StepAll.{mount-num, mount-few, own-geo, not-top, sync-live}
+use Rattle.promises.specs.Steps.{to-live}
+use Rattle.promises.specs.StepAll.{own-geo, not-top}
 use Rattle.promises.specs.Within.{steps-plan}
 use Rattle.promises.specs.CardRun.{Can, CanAll, top-can, can-nil, can-write, can-settle, sync-can}
 use Rattle.promises.specs.Demand.{inv}

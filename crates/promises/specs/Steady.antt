@@ -24,17 +24,15 @@ use Rattle.store.specs.Mount.{Ended, openedFrom, mountDone, mount}
 use Rattle.store.specs.Edit.{put, remove}
 use Rattle.store.specs.Sync.{land, grown, syncDone, sync, unmount}
 use Rattle.store.specs.StepLaws.{mount-bump}
+use Rattle.store.specs.Plans.{both-num, make-num, make-ok, mount-few, mount-good, mount-num, sync-live}
 use Rattle.promises.specs.PlainList.{items, shownBy, shownIn}
 use Rattle.promises.specs.History.{World, makeC, syncC, unmountC, putC, removeC, landC, byNumber, edited, stepped, after, Reach, call}
 use Rattle.promises.specs.Items.{bump-items}
-use Rattle.promises.specs.Steps.{both-num, make-num, make-ok}
-use Rattle.promises.specs.StepAll.{mount-num, mount-few, sync-live}
 use Rattle.promises.specs.Synced.{sync-shows}
 use Rattle.promises.specs.Demand.{card-possible}
 use Rattle.promises.specs.FitCalm.{rest-shows}
 use Rattle.promises.specs.FitAll.{sync-rest}
 use Rattle.promises.specs.FitMount.{mount-rest, mount-up, opened-is, atWord}
-use Rattle.promises.specs.FitHistory.{mount-good}
 
 -- ---- the statement
 

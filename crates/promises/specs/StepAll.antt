@@ -1,17 +1,17 @@
 -- Mount, sync and unmount keep the invariant, and so every call does. Assumes nothing.
 use mathlib.Core.Path.{_≡_, refl, sym}
-use mathlib.Core.Bool.{Bool, true, false, not}
+use mathlib.Core.Bool.{Bool, true, false}
 use mathlib.Core.List.{List, []}
 use Prim.Native.Nat.{ℕ, _+_, _≤_, _<_}
 use native.Mathlib.Omega.{arith}
-use borrow.Author.Tests.{ltb-true, eqb-false, not-true}
+use borrow.Author.Tests.{eqb-false}
 use Rattle.sectors.specs.Sectors.{sec, applySteps}
 use Rattle.counts.specs.declared.Geo.{Geo}
 use Rattle.counts.specs.Geometry.{gN, geoOf, countOf, tableOf}
 use Rattle.counts.specs.Stamps.{maxTx}
 use Rattle.directory.specs.Directory.{entriesOf}
-use Rattle.card.specs.Plan.{doIt, guard, refused, done}
-use Rattle.card.specs.PlanLaws.{guard-inv, Num, go!, guard-num}
+use Rattle.card.specs.Plan.{refused, done}
+use Rattle.card.specs.PlanLaws.{go!, guard-num}
 use Rattle.card.specs.Files.{filesOf}
 use Rattle.card.specs.Reading.{filesIn, filesShown}
 use Rattle.session.specs.declared.Opened.{Opened}
@@ -20,8 +20,9 @@ use Rattle.session.specs.declared.Session.the-variants.{Closed, Open}
 use Rattle.session.specs.Views.{presentFiles, sessionFiles}
 use Rattle.session.specs.FitLaws.{Fit, fit-inv, fit-table, present-worn}
 use Rattle.store.specs.Steps.{setCount, setWord, mountSteps, syncSteps, atTop, downSteps, unmountStepsBy, unmountSteps, syncWork}
-use Rattle.store.specs.Mount.{Ended, mountPlan, openedFrom, mountDone, mount}
-use Rattle.store.specs.Sync.{bothPlan, grown, syncDone, sync, unmountDone, unmount}
+use Rattle.store.specs.Mount.{Ended, openedFrom, mountDone, mount}
+use Rattle.store.specs.Sync.{grown, syncDone, sync, unmountDone, unmount}
+use Rattle.store.specs.Plans.{both-inv, both-num, mount-few, mount-num, sync-live}
 use Rattle.promises.specs.PlainList.{Item, items, shownBy, shownIn}
 use Rattle.promises.specs.History.{Pending, play, settled, World, afterCut, byNumber, endOpen, before, syncsBy, unmountsBy, stepsOf, stepped, Call, makeC, mountC, syncC, unmountC, putC, removeC, landC, getC, listC, freeC, after}
 use Rattle.promises.specs.State.{AtRest, Live}
@@ -29,17 +30,9 @@ use Rattle.promises.specs.Inv.{Worn, OpenInv, InvOf, Inv, mk, inv-calm, 
 use Rattle.promises.specs.SyncRun.{sync-play, sync-card, new-rests}
 use Rattle.promises.specs.SyncEnd.{next-live, next-worn, down-rests, down-card}
 use Rattle.promises.specs.MountRun.{mount-lands, mount-card, mount-live}
-use Rattle.promises.specs.Steps.{by-plan, both-inv, both-num, to-live, step-make, step-put, step-remove, step-land}
+use Rattle.promises.specs.Steps.{by-plan, to-live, step-make, step-put, step-remove, step-land}
 
 -- ---- mount: over an open session first a cut at which the card stays as it is
-
-pub mount-num : (card work : List ℕ) → Num (mountPlan card work)
-unfolding mountPlan
-mount-num card work = guard-num 0 _ (guard-num 1 _ (guard-num 2 _ (go! 0 0)))
-
-pub mount-few : (card work : List ℕ) (j a : ℕ) → mountPlan card work ≡ doIt j a → countOf (sec card) < gN (geoOf (sec card))
-unfolding mountPlan
-mount-few card work j a h = ltb-true _ _ (guard-inv 3 _ _ (guard-inv 2 _ _ (guard-inv 1 _ _ h .1) .1) .0)
 
 -- the geometry of a card at rest is its own
 pub own-geo : (g : Geo) (card : List ℕ) (p : Pending) (m : List Item) → AtRest g card p m → AtRest (geoOf (sec card)) card p m
@@ -85,9 +78,6 @@ step-mount (Open s) card work p m h =
 pub not-top : (s : Opened) → s .t .0 ≤ maxTx → atTop s ≡ false → s .t .0 < maxTx
 unfolding atTop
 not-top s h e = let q = eqb-false (s .t .0) maxTx e in omega arith
-
-pub sync-live : (s : Opened) (card work : List ℕ) {j a : ℕ} → bothPlan s card work (guard 9 (not (s .worn)) (doIt 0 0)) ≡ doIt j a → Fit s work × (s .worn ≡ false)
-sync-live s card work h = let (f, q) = both-inv s card work _ h in (fit-inv s work f, not-true (s .worn) (guard-inv 9 _ _ q .0))
 
 sync-inv : (s : Opened) (card work : List ℕ) (p : Pending) (m : List Item) → Live s card work p m → Fit s work → s .worn ≡ false
     → InvOf (Open (grown (atTop s) s))

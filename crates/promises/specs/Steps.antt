@@ -7,7 +7,6 @@ use Prim.Native.Nat.{ℕ, suc, _<_}
 use native.Mathlib.Decide.{ℕ-discrete}
 use borrow.Author.Tests.{ltb-true}
 use lib.ListN.{length}
-use Rattle.words.specs.BoolLaws.{both}
 use Rattle.sectors.specs.Sectors.{sec, setSec}
 use Rattle.sectors.specs.SectorLaws.{setSec-length}
 use Rattle.sectors.specs.FlatLaws.{sec-in, set-here, set-there}
@@ -18,7 +17,7 @@ use Rattle.card.specs.Plan.{Plan, doIt, ended, refused, done, Changed}
 use Rattle.card.specs.PlanLaws.{guard-inv, Num, go!, guard-num, passing}
 use Rattle.card.specs.Sound.{shapeOk, sound}
 use Rattle.card.specs.SoundLaws.{shape-inv}
-use Rattle.card.specs.Make.{freshCard, makePlan, make}
+use Rattle.card.specs.Make.{freshCard, make}
 use Rattle.card.specs.FreshLaws.{fresh-shape, fresh-sound}
 use Rattle.card.specs.Reading.{filesShown}
 use Rattle.session.specs.declared.Opened.{Opened}
@@ -27,8 +26,8 @@ use Rattle.session.specs.declared.Session.the-variants.{Closed, Open}
 use Rattle.session.specs.Fits.{fits}
 use Rattle.session.specs.FitLaws.{Fit, fit-inv}
 use Rattle.store.specs.Edit.{put, remove}
-use Rattle.store.specs.Sync.{bothPlan, land}
-use Rattle.store.specs.EditPlans.{put-inv, put-num, remove-inv, remove-num}
+use Rattle.store.specs.Sync.{land}
+use Rattle.store.specs.Plans.{put-inv, put-num, remove-inv, remove-num, both-inv, both-num, make-num, make-ok}
 use Rattle.promises.specs.PlainList.{Item, shownBy}
 use Rattle.promises.specs.History.{Pending, newest, allWritten, World, afterCut, byNumber, edited, makeC, putC, removeC, landC, after}
 use Rattle.promises.specs.Keep.{Keeps}
@@ -45,14 +44,6 @@ pub by-plan : {A : Type 0} (number : A → ℕ) (P : World → Type 0) (w : Worl
     → P (byNumber (number (ended pl stop on)) (next (ended pl stop on)) w)
 unfolding byNumber
 by-plan number P w stop on next e q h f = passing (λ r. P (byNumber (number r) (next r) w)) stop on q (λ k. rw (e (suc k)) h) f
-
-pub both-inv : (s : Opened) (card work : List ℕ) (pl : Plan) {j a : ℕ} → bothPlan s card work pl ≡ doIt j a → (fits s work ≡ true) × (pl ≡ doIt j a)
-unfolding bothPlan
-both-inv s card work pl h = guard-inv 2 _ _ (guard-inv 1 _ _ h .1)
-
-pub both-num : (s : Opened) (card work : List ℕ) {pl : Plan} → Num pl → Num (bothPlan s card work pl)
-unfolding bothPlan
-both-num s card work h = guard-num 0 _ (guard-num 1 _ h)
 
 -- a session that is not worn is live
 pub to-live : (s : Opened) (w : World) → s .worn ≡ false → OpenInv (s .worn) s w → Live s (w .card) (w .work) (w .pending) (w .last)
@@ -71,14 +62,6 @@ inv-start card work h k =
 
 pub inv-fresh : (g : Geo) (work : List ℕ) → geoOk g ≡ true → Inv (afterCut (freshCard g) work)
 inv-fresh g work ok = inv-start (freshCard g) work (fresh-shape g ok) (fresh-sound g ok)
-
-pub make-num : (g : Geo) (card : List ℕ) → Num (makePlan g card)
-unfolding makePlan
-make-num g card = guard-num 0 _ (go! 0 0)
-
-pub make-ok : (g : Geo) (card : List ℕ) {j a : ℕ} → makePlan g card ≡ doIt j a → geoOk g ≡ true
-unfolding makePlan
-make-ok g card h = both (geoOk g) _ (guard-inv 1 _ _ h .0) .0
 
 pub step-make : (g : Geo) (w : World) → Inv w → Inv (after (makeC g) w)
 unfolding after make refused done byNumber

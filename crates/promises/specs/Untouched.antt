@@ -28,7 +28,7 @@ use Rattle.session.specs.FitLaws.{fit-inv, present-live}
 use Rattle.store.specs.Edit.{putContent, putPlan, putRun, putWork, put, removePlan, removeWork, remove, editWork}
 use Rattle.store.specs.EditLaws.{CanEdit}
 use Rattle.store.specs.RoomLaws.{can-put, can-remove}
-use Rattle.store.specs.EditPlans.{put-inv, put-num, remove-inv, remove-num}
+use Rattle.store.specs.Plans.{put-inv, put-num, remove-inv, remove-num}
 use Rattle.promises.specs.Ready.{tcOf, tpOf, indexAt, cut, pages, Ready, spot}
 use Rattle.promises.specs.Change.{edit-length, data-put, left-alone, entries-now, change-edit}
 use Rattle.promises.specs.Calls.{put-ready, remove-ready}

@@ -17,6 +17,7 @@ use Rattle.session.specs.FitLaws.{Fit, fit-inv}
 use Rattle.store.specs.Steps.{setWord, mountSteps, syncSteps, atTop, downSteps, unmountStepsBy, unmountSteps}
 use Rattle.store.specs.Mount.{Ended, mountDone, mount}
 use Rattle.store.specs.Sync.{syncDone, sync, unmountDone, unmount}
+use Rattle.store.specs.Plans.{both-inv, both-num, mount-few, mount-num, sync-live}
 use Rattle.promises.specs.PlainList.{Item, shownIn}
 use Rattle.promises.specs.History.{Pending, play, settled, Left, World, afterCut, byNumber, endOpen, before, syncsBy, unmountsBy, stepsOf, pendingIn, Call, makeC, mountC, syncC, unmountC, putC, removeC, landC, getC, listC, freeC, Reads, isSync}
 use Rattle.promises.specs.Play.{Every, every-nil, every-write}
@@ -25,8 +26,8 @@ use Rattle.promises.specs.Inv.{OpenInv, InvOf, Inv, mk, inv-reads, inv-l
 use Rattle.promises.specs.SyncRun.{Either, sync-every, new-reads}
 use Rattle.promises.specs.SyncEnd.{down-reads}
 use Rattle.promises.specs.MountRun.{mount-every}
-use Rattle.promises.specs.Steps.{both-inv, both-num, to-live}
-use Rattle.promises.specs.StepAll.{mount-num, mount-few, own-geo, not-top, sync-live}
+use Rattle.promises.specs.Steps.{to-live}
+use Rattle.promises.specs.StepAll.{own-geo, not-top}
 
 -- a call that is refused takes no step
 pub steps-plan : {A : Type 0} (number : A → ℕ) (Q : List Step → Type 0) (stop : ℕ → A) (on : ℕ → ℕ → A) (steps : List Step) {pl : Plan}

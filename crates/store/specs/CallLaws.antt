@@ -15,6 +15,7 @@ use Rattle.entries.specs.Entries.{goodName, sectorsFor}
 use Rattle.directory.specs.Directory.{entriesOf, named}
 use Rattle.card.specs.declared.Answer.{Answer}
 use Rattle.card.specs.Plan.{Plan, refuse, doIt, guard, need, ended, refused, done, Changed}
+use Rattle.card.specs.PlanLaws.{guard-no, guard-yes, need-no, need-yes}
 use Rattle.session.specs.declared.Opened.{Opened}
 use Rattle.session.specs.declared.Session.{Session}
 use Rattle.session.specs.declared.Session.the-variants.{Closed, Open}
@@ -36,22 +37,6 @@ pub leaves : (e : Changed) {f : Changed} {r : Answer} {x : List ℕ} → e ≡ f
 leaves e h p q = rw h (p, q)
 
 -- ---- plans
-
-pub guard-no : (k : ℕ) (p : Plan) {b : Bool} → b ≡ false → guard k b p ≡ refuse k
-unfolding guard
-guard-no k p e = ap (λ (b : Bool). guard k b p) e
-
-pub guard-yes : (k : ℕ) (p : Plan) {b : Bool} → b ≡ true → guard k b p ≡ p
-unfolding guard
-guard-yes k p e = ap (λ (b : Bool). guard k b p) e
-
-need-no : (k : ℕ) (f : ℕ → Plan) {x : Found} → x ≡ Nowhere → need k x f ≡ refuse k
-unfolding need
-need-no k f e = ap (λ (x : Found). need k x f) e
-
-need-yes : (k : ℕ) (f : ℕ → Plan) {x : Found} {i : ℕ} → x ≡ At i → need k x f ≡ f i
-unfolding need
-need-yes k f e = ap (λ (x : Found). need k x f) e
 
 -- the tests 2, 9 and 5 of put and remove
 module _ (s : Opened) (work n : List ℕ) (p : Plan) where

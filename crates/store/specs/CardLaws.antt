@@ -11,13 +11,14 @@ use Rattle.counts.specs.Geometry.{gN, geoOf, countOf}
 use Rattle.card.specs.declared.Answer.{Answer}
 use Rattle.card.specs.Plan.{Plan, refuse, doIt, guard, ended, refused, done, Changed}
 use Rattle.card.specs.Sound.{shapeOk, sound}
+use Rattle.card.specs.PlanLaws.{guard-no, guard-yes}
 use Rattle.session.specs.declared.Opened.{Opened}
 use Rattle.session.specs.declared.Session.{Session}
 use Rattle.session.specs.declared.Session.the-variants.{Closed, Open}
 use Rattle.session.specs.Fits.{fits}
 use Rattle.store.specs.Mount.{Ended, mountPlan, openedFrom, mountDone, mount}
 use Rattle.store.specs.Sync.{bothPlan, land}
-use Rattle.store.specs.CallLaws.{Leaves, leaves, guard-no, guard-yes}
+use Rattle.store.specs.CallLaws.{Leaves, leaves}
 
 abbrev pub Ends : Ended → Answer → Session → List ℕ → List ℕ → Type 0
 Ends e a o x y = (a ≡ e .answer) × ((o ≡ e .session) × ((x ≡ e .card) × (y ≡ e .work)))

@@ -9,7 +9,7 @@ pub mod WriteLaws
 pub mod ViewLaws
 pub mod SyncLaws
 pub mod PlaceLaws
-pub mod EditPlans
+pub mod Plans
 pub mod RoomLaws
 pub mod CallLaws
 pub mod LookLaws

@@ -25,8 +25,8 @@ use Rattle.session.specs.Fits.{fits}
 use Rattle.card.specs.ReadLaws.{IsGot, getIn}
 use Rattle.card.specs.CoverLaws.{RunsOk, entries-runs}
 use Rattle.card.specs.SoundLaws.{view-inv}
+use Rattle.card.specs.PlanLaws.{guard-no, guard-yes}
 use Rattle.session.specs.FitLaws.{fit-inv}
-use Rattle.store.specs.CallLaws.{guard-no, guard-yes}
 use Rattle.store.specs.Look.{line, free, get}
 
 pub got : (e : Got) {f : Got} {r : Answer} {x : List ℕ} → e ≡ f → r ≡ f .answer → x ≡ f .out → IsGot r x e

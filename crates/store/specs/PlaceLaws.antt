@@ -1,6 +1,6 @@
 -- What put's search for an entry says: the entry found carries the name, where a view shows one. Assumes nothing.
 use mathlib.Core.Path.{_≡_, refl, sym, _∙_}
-use mathlib.Core.Bool.{true, false, not}
+use mathlib.Core.Bool.{true, false}
 use mathlib.Core.List.{List, []}
 use Prim.Native.Nat.{ℕ, _<_}
 use lib.ListN.{length, getD}
@@ -8,10 +8,10 @@ use Rattle.words.specs.declared.Found.{Found}
 use Rattle.words.specs.declared.Found.the-variants.{At, Nowhere}
 use Rattle.words.specs.Lists.{firstAt}
 use Rattle.words.specs.BoolLaws.{both, falsum}
-use Rattle.words.specs.EveryMore.{eqList-eq}
 use Rattle.words.specs.FirstLaws.{found-at}
 use Rattle.entries.specs.Entries.{shown, isAbsent, nameOf}
 use Rattle.directory.specs.Directory.{gone, named}
+use Rattle.directory.specs.NameLaws.{named-true}
 use Rattle.store.specs.Edit.{orElse, putPlace}
 
 pub record Named (tp tc n : List ℕ) (ps : List (List ℕ)) (m : ℕ) : Type 0 where
@@ -26,7 +26,7 @@ module _ (tp tc n : List ℕ) (ps : List (List ℕ)) (j : ℕ) where
       record { below = b; name = λ e. same q; name′ = λ e. same q }
     where
       same : named tp tc n (getD ps j []) ≡ true → n ≡ nameOf (getD ps j [])
-      same q = unfold named in eqList-eq n _ (both (not (gone tp tc (getD ps j []))) _ q .1)
+      same q = sym (named-true tp tc n (getD ps j []) q .1)
 
   free-found : firstAt (gone tp tc) 0 ps ≡ At j → Named tp tc n ps j
   free-found h =

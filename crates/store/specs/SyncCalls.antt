@@ -7,6 +7,7 @@ use lib.ListN.{length}
 use Rattle.sectors.specs.Sectors.{applySteps}
 use Rattle.card.specs.declared.Answer.{Answer}
 use Rattle.card.specs.Plan.{Plan, refuse, doIt, guard, ended, refused, done}
+use Rattle.card.specs.PlanLaws.{guard-no, guard-yes}
 use Rattle.session.specs.declared.Opened.{Opened}
 use Rattle.session.specs.declared.Session.{Session}
 use Rattle.session.specs.declared.Session.the-variants.{Closed, Open}
@@ -14,7 +15,6 @@ use Rattle.session.specs.Fits.{fits}
 use Rattle.store.specs.Steps.{syncSteps, unmountSteps, syncWork, unmountWork, atTop}
 use Rattle.store.specs.Mount.{Ended}
 use Rattle.store.specs.Sync.{bothPlan, grown, syncDone, sync, unmountDone, unmount}
-use Rattle.store.specs.CallLaws.{guard-no, guard-yes}
 use Rattle.store.specs.CardLaws.{Ends, ends, both-1, both-2, both-ok}
 
 -- ---- sync
