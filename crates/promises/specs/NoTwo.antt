@@ -65,11 +65,11 @@ pub record InTable : Type 0 where
 
 -- ---- a number that no row after some has
 
-abbrev other : ℕ → List Row → Bool
+abbrev pub other : ℕ → List Row → Bool
 other k [] = not (eqb k 0)
 other k (r ∷ rows) = not (eqb k (r .number)) && other k rows
 
-lacks : (k : ℕ) (rows : List Row) → other k rows ≡ true → ¬ Gives rows k
+pub lacks : (k : ℕ) (rows : List Row) → other k rows ≡ true → ¬ Gives rows k
 lacks k [] h g = clash (eq-eqb k 0 g) (not-true _ h)
 lacks k (r ∷ rows) h (inl g) = clash (eq-eqb k (r .number) (g .1)) (not-true _ (both (not (eqb k (r .number))) _ h .0))
 lacks k (r ∷ rows) h (inr g) = lacks k rows (both (not (eqb k (r .number))) _ h .1) (g .1)

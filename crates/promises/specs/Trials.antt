@@ -1,18 +1,16 @@
 -- "Try these on the contracts: a store that always says 8 or 2, and one that always says 0": the table of numbers shuts them out, whatever the
 -- number and for every call. The other trial stores are in TrialsStore (stores nothing; counts made up; the order of sync's writes), TrialsSync
 -- (later syncs that only say so) and TrialsTable (the table sector first, at a cut), on the history of TrialsCard and TrialsRun. Assumes nothing.
-use mathlib.Core.Path.{_≡_, refl, sym, _∙_}
-use mathlib.Core.Bool.{Bool, true, false, not, _&&_}
+use mathlib.Core.Path.{_≡_, refl, _∙_}
+use mathlib.Core.Bool.{true, false}
 use mathlib.Core.List.{List, [], _∷_}
 use mathlib.Core.Logic.{_≢_, inl, inr, ⊎-elim}
 use Prim.Native.Nat.{ℕ}
 use native.Mathlib.Omega.{arith}
-use borrow.Author.Tests.{not-true, eqb-false}
-use lib.Dec.{eqb}
 use lib.ListN.{length}
 use Rattle.words.specs.Lists.{part}
 use Rattle.words.specs.Bytes.{wordAt}
-use Rattle.words.specs.BoolLaws.{never, both}
+use Rattle.words.specs.BoolLaws.{never}
 use Rattle.sectors.specs.Sectors.{sec}
 use Rattle.counts.specs.declared.Geo.{Geo}
 use Rattle.counts.specs.Geometry.{geoOk, geoOf}
@@ -29,6 +27,7 @@ use Rattle.session.specs.Fits.{sizesOk, fits}
 use Rattle.promises.specs.Numbers.{Row, Gives, Exactly, Misshapen, NoEntry, NoRoom, makeRows, mountRows, putRows, removeRows, getRows, listRows, freeRows, landRows, syncRows, unmountRows, readRows, readListRows, readGetRows}
 use Rattle.promises.specs.RowLaws.{clash}
 use Rattle.promises.specs.NumbersProved.{numbers}
+use Rattle.promises.specs.NoTwo.{other, lacks}
 use Rattle.promises.specs.TrialsCard.{ten, ten-ok, a, seven}
 use Rattle.promises.specs.TrialsRun.{mounted, at-mounted}
 
@@ -39,15 +38,10 @@ abbrev pub Leads : ℕ → List Row → Type 0
 Leads m [] = ⊥
 Leads m (r ∷ rows) = r .due × (r .number ≡ m)
 
--- none of the rows has number m, and m is not "done"
-abbrev pub others : ℕ → List Row → Bool
-others m [] = not (eqb m 0)
-others m (r ∷ rows) = not (eqb (r .number) m) && others m rows
-
 -- the first row is not due, and no other has number m
 abbrev pub Passes : ℕ → List Row → Type 0
 Passes m [] = ⊥
-Passes m (r ∷ rows) = (¬ r .due) × (others m rows ≡ true)
+Passes m (r ∷ rows) = (¬ r .due) × (other m rows ≡ true)
 
 -- there only m is right
 leads : (m k : ℕ) (rows : List Row) → Leads m rows → Gives rows k → k ≡ m
@@ -56,16 +50,10 @@ leads m k (r ∷ rows) l (inl p) = p .1 ∙ l .1
 leads m k (r ∷ rows) l (inr p) = absurd (p .0 (l .0))
 
 -- there m is wrong
-not-among : (m : ℕ) (rows : List Row) → others m rows ≡ true → ¬ Gives rows m
-not-among m [] o g = eqb-false m 0 (not-true (eqb m 0) o) g
-not-among m (r ∷ rows) o (inl p) = eqb-false (r .number) m (not-true (eqb (r .number) m) (both (not (eqb (r .number) m)) _ o .0)) (sym (p .1))
-not-among m (r ∷ rows) o (inr p) = not-among m rows (both (not (eqb (r .number) m)) _ o .1) (p .1)
-
--- and there too
 passes : (m : ℕ) (rows : List Row) → Passes m rows → ¬ Gives rows m
 passes m [] p g = p
 passes m (r ∷ rows) p (inl q) = p .0 (q .0)
-passes m (r ∷ rows) p (inr q) = not-among m rows (p .1) (q .1)
+passes m (r ∷ rows) p (inr q) = lacks m rows (p .1) (q .1)
 
 -- a call that is due m at one place and something else at another has no number that is right at both
 fixed : {A : Type 0} (m : ℕ) (table : A → List Row) (x y : A) → Leads m (table x) → Passes m (table y)
