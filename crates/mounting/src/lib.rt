@@ -5,7 +5,7 @@ ghost use Prim.Native.Nat.{_+_, _*_, _≤_, _<_};
 ghost use lib.ListN.{length, take};
 ghost use Rattle.words.specs.Lists.{splice};
 ghost use Rattle.words.specs.Bytes.{wordBytes};
-ghost use Rattle.sectors.specs.Sectors.{sec, setSec, applySteps};
+ghost use Rattle.sectors.specs.Sectors.{sec, setSec, applySteps, applyStep};
 ghost use Rattle.store.specs.Steps.{setCount, setWord, mountSteps};
 ghost use Rattle.store.specs.Mount.{openedFrom, mountDone};
 ghost use Rattle.store.specs.WriteLaws.{CanMount};
@@ -47,17 +47,29 @@ pub fn sector_with(img: &[u8], i: Sector, at: usize, w: u32) -> [u8; 512]
 
 // ---- mount
 
-// The first k steps of mount: "Mount writes C + 1 to sector 0 of the card".
-pub fn mount_steps(card: &mut [u8], k: usize)
-    requires { ⌜ CanMount (now card) ⌝ }
-    ensures { λ _. ⌜ now (card .exit) ≡ applySteps (take k (mountSteps (now (card .entry)))) (now (card .entry)) ⌝ }
+// Step number k of mount: "Mount writes C + 1 to sector 0 of the card", then a barrier.
+fn mount_step(card: &mut [u8], k: u32)
+    requires { ⌜ ((k ≡ 0) → CanMount (now card)) ⌝ }
+    ensures { λ _. ⌜ now (card .exit) ≡ applyStep k (mountSteps (now (card .entry))) (now (card .entry)) ⌝ }
 {
-    if k == 0 {
+    if k != 0 {
         return;
     }
     let next = words::word_at(card, 0) + 1;
     let block = sector_with(card, Sector(0), 0, next);
     sectors::write_sector(card, Sector(0), &block)
+}
+
+// The first k steps of mount.
+pub fn mount_steps(card: &mut [u8], k: u32)
+    requires { ⌜ CanMount (now card) ⌝ }
+    ensures { λ _. ⌜ now (card .exit) ≡ applySteps (take k (mountSteps (now (card .entry)))) (now (card .entry)) ⌝ }
+{
+    let mut i: u32 = 0;
+    while i < k {
+        mount_step(card, i);
+        i += 1;
+    }
 }
 
 // "The session has c = the old C and t = table word c, plus 1."

@@ -1,16 +1,15 @@
--- The first k steps of mount, sync and unmount, taken apart as code does them. Assumes nothing.
+-- What mount, sync and unmount ask, the sectors they write, and the steps of mount one by one. Assumes nothing.
 use mathlib.Core.Path.{_≡_, refl, sym, ap, _∙_}
 use mathlib.Core.Bool.{true, false}
 use mathlib.Core.Logic.{_≢_}
-use mathlib.Core.List.{List, [], _∷_, _++_}
-use Prim.Native.Nat.{ℕ, zero, suc, _+_, _-_, _*_, _/_, _%_, _≤_, _<_, min}
+use mathlib.Core.List.{List}
+use Prim.Native.Nat.{ℕ, zero, suc, _+_, _-_, _*_, _/_, _%_, _≤_, _<_}
 use native.Mathlib.Omega.{arith}
 use lib.ListN.{length, take, getD}
 use Rattle.words.specs.Lists.{part, splice}
 use Rattle.words.specs.Bytes.{wordAt, wordBytes}
 use Rattle.words.specs.WordLaws.{wordBytes-length, word-part}
-use Rattle.sectors.specs.Sectors.{sec, setSec, Step, settle, applySteps, copySteps}
-use Rattle.sectors.specs.SectorLaws.{applySteps-append, copySteps-append, copySteps-take}
+use Rattle.sectors.specs.Sectors.{sec, setSec, applySteps, applyStep}
 use Rattle.sectors.specs.FlatLaws.{inside-here, inside-other}
 use Rattle.counts.specs.declared.Geo.{Geo}
 use Rattle.counts.specs.Geometry.{gN, geoOf, countOf, tableOf}
@@ -54,6 +53,11 @@ can-sync s card work l h =
     let L = limits (s .geo) (F .shape) in
     record { room = L .sLow; top = L .sHigh; table = L .tHigh; count = unfold gN in F .count; tx = F .tx; cardSize = l; workSize = F .sized }
 
+-- a card of the same length serves as well
+pub can-still : (s : Opened) {card work : List ℕ} (next : List ℕ) → CanSync s card work → length next ≡ length card → CanSync s next work
+can-still s next C l =
+    record { room = C .room; top = C .top; table = C .table; count = C .count; tx = C .tx; cardSize = l ∙ C .cardSize; workSize = C .workSize }
+
 -- ---- sectors with one word put
 
 pub count-sector : (c : ℕ) (img : List ℕ) → sec (setCount c img) 0 ≡ splice (sec img 0) 0 (wordBytes c)
@@ -76,51 +80,31 @@ pub count-here : (img : List ℕ) → 512 ≤ length img → wordAt img 0 ≡ co
 unfolding countOf sec part
 count-here img h = sym (word-part img 512 0 0 (omega arith) (omega arith))
 
--- ---- lists of steps
-
-pub take-nil : (m : ℕ) → take m (let l : List Step = [] in l) ≡ []
-take-nil zero = refl
-take-nil (suc m) = refl
-
-pub take-split : (k : ℕ) (a b : List Step) → take k (a ++ b) ≡ take k a ++ take (k - length a) b
-take-split zero a b = let e : 0 - length a ≡ 0 = omega arith in rw e
-take-split (suc k) [] b = let e : suc k - 0 ≡ suc k = omega arith in rw e
-take-split (suc k) (x ∷ a) b =
-    let e : suc k - suc (length a) ≡ k - length a = omega arith in
-    rw e (ap (λ (l : List Step). x ∷ l) (take-split k a b))
-
-pub copy-length : (img : List ℕ) (i n : ℕ) → length (copySteps img i n []) ≡ n
-unfolding copySteps
-copy-length img i zero = refl
-copy-length img i (suc n) = ap suc (copy-length img (suc i) n)
-
--- the first k steps of a copy with steps behind it
-pub copy-then : (img : List ℕ) (i n k : ℕ) (r : List Step) (card : List ℕ)
-    → applySteps (take k (copySteps img i n r)) card ≡ applySteps (take (k - n) r) (applySteps (copySteps img i (min k n) []) card)
-copy-then img i n k r card =
-    ap (λ (l : List Step). applySteps (take k l) card) (copySteps-append img i n r)
-    ∙ ap (λ (l : List Step). applySteps l card) (take-split k (copySteps img i n []) r)
-    ∙ applySteps-append (take k (copySteps img i n [])) _ card
-    ∙ rw (copySteps-take img i n k, copy-length img i n)
-
-pub settled : (m : ℕ) (card : List ℕ) → applySteps (take m (settle ∷ [])) card ≡ card
-unfolding applySteps
-settled zero card = refl
-settled (suc m) card = rw (take-nil m)
-
 -- ---- mount
 
-pub mount-none : (k : ℕ) (card : List ℕ) → k ≡ 0 → card ≡ applySteps (take k (mountSteps card)) card
-unfolding applySteps
-mount-none zero card h = refl
-mount-none (suc k) card h = absurd (omega arith)
+-- a loop over the steps of mount reads the list off the card as it is by then: the steps that are left are the same
+pub mount-same : (card₀ card : List ℕ) (k : ℕ) → card ≡ applySteps (take k (mountSteps card₀)) card₀ → applyStep k (mountSteps card) card ≡ applyStep k (mountSteps card₀) card
+unfolding mountSteps applySteps applyStep
+mount-same card₀ card zero e = rw e
+mount-same card₀ card (suc k) e = refl
 
-pub mount-some : (k : ℕ) (card : List ℕ) {c : ℕ} {block f : List ℕ} → k ≢ 0 → 512 ≤ length card → c ≡ wordAt card 0
-    → block ≡ splice (sec card 0) 0 (wordBytes (c + 1)) → f ≡ setSec card 0 block → f ≡ applySteps (take k (mountSteps card)) card
-unfolding applySteps mountSteps
-mount-some zero card n l e g h = absurd (n refl)
-mount-some (suc k) card n l e g h =
-    h ∙ rw (g, e, count-here card l, ← count-sector) (sym (settled k _))
+-- and before the first step the card is the old one
+pub mount-begins : (card₀ card : List ℕ) (k : ℕ) → card ≡ applySteps (take k (mountSteps card₀)) card₀ → CanMount card₀ → k ≡ 0 → CanMount card
+unfolding applySteps
+mount-begins card₀ card zero e M z = rw e M
+mount-begins card₀ card (suc k) e M z = absurd (omega arith)
+
+-- step number 0, and the others
+pub mount-write : (card : List ℕ) {k c : ℕ} {block f : List ℕ} → k ≡ 0 → 512 ≤ length card → c ≡ wordAt card 0
+    → block ≡ splice (sec card 0) 0 (wordBytes (c + 1)) → f ≡ setSec card 0 block → f ≡ applyStep k (mountSteps card) card
+unfolding mountSteps applySteps applyStep
+mount-write card z l e g h = h ∙ rw (z, g, e, count-here card l, ← count-sector)
+
+pub mount-still : (card : List ℕ) (k : ℕ) → k ≢ 0 → card ≡ applyStep k (mountSteps card) card
+unfolding mountSteps applySteps applyStep
+mount-still card zero n = absurd (n refl)
+mount-still card (suc zero) n = refl
+mount-still card (suc (suc k)) n = refl
 
 -- the session that mount opens, from the words that code reads
 pub opened-here : (card : List ℕ) {g : Geo} {c t : ℕ} → 512 ≤ length card → g ≡ geoOf (sec card) → c ≡ wordAt card 0 → t ≡ getD (tableOf g (sec card)) c 0

@@ -1,56 +1,57 @@
 // The writes of sync and unmount, one sector at a time and in their order.
 ghost use mathlib.Core.Path.{_≡_};
-ghost use mathlib.Core.Bool.{true, false};
 ghost use mathlib.Core.List.{[]};
-ghost use Prim.Native.Nat.{_+_, _*_, _≤_, _<_, min};
+ghost use Prim.Native.Nat.{_+_, _*_, _/_, _≤_, _<_};
 ghost use lib.ListN.{length, take};
-ghost use Rattle.sectors.specs.Sectors.{sec, setSec, applySteps};
+ghost use Rattle.sectors.specs.Sectors.{sec, applySteps, applyStep};
 ghost use Rattle.counts.specs.Stamps.{maxTx};
-ghost use Rattle.store.specs.Steps.{setWord, tableSector, syncSteps, downSteps, atTop, unmountSteps, syncWork, unmountWork};
+ghost use Rattle.store.specs.Steps.{setCount, setWord, tableSector, syncSteps, atTop, unmountSteps, syncWork, unmountWork};
 ghost use Rattle.store.specs.Sync.{grown};
 ghost use Rattle.store.specs.WriteLaws.{CanSync};
 use counts::TxCount;
 use sectors::Sector;
 use session::Opened;
 
-// More steps than any call has.
-const ALL: usize = 4100;
-
 // ---- sync
 
-// The least of k and n.
-fn least(k: usize, n: u32) -> u32
-    ensures { λ r. ⌜ (r ≡ min k n) × (r ≤ n) ⌝ }
+// The table sector that holds word c, as the working image has it with word c = t.
+fn table_block(s: Opened, work: &[u8]) -> [u8; 512]
+    requires { ⌜ 512 * (1 + s .c .0 / 128) + 512 ≤ length (now work) ⌝ }
+    ensures { λ r. ⌜ r ≡ sec (setWord (s .c .0) (s .t .0) (now (work .entry))) (tableSector (s .c .0)) ⌝ }
 {
-    if k < n as usize { k as u32 } else { n }
-}
-
-// Writes the table sector that holds word c, as the working image has it with word c = t.
-fn write_table(s: Opened, card: &mut [u8], work: &[u8])
-    requires { ⌜ CanSync s (now card) (now work) ⌝ }
-    ensures { λ _. ⌜ now (card .exit) ≡ setSec (now (card .entry)) (tableSector (s .c .0)) (sec (setWord (s .c .0) (s .t .0) (now (work .entry))) (tableSector (s .c .0))) ⌝ }
-{
-    let i = Sector(1 + s.c.0 / 128);
     let at = 4 * ((s.c.0 % 128) as usize);
-    let block = mounting::sector_with(work, i, at, s.t.0);
-    sectors::write_sector(card, i, &block)
+    mounting::sector_with(work, Sector(1 + s.c.0 / 128), at, s.t.0)
 }
 
-// The first k steps of sync: every sector but the table in rising order, then the table sector that holds word c.
-pub fn sync_steps(s: Opened, card: &mut [u8], work: &[u8], k: usize)
+// Step number k of sync: sector 0, the sectors past the table in rising order, then between two barriers the table sector that holds word c.
+fn sync_step(s: Opened, card: &mut [u8], work: &[u8], k: u32)
+    requires { ⌜ CanSync s (now card) (now work) ⌝ }
+    ensures { λ _. ⌜ now (card .exit) ≡ applyStep k (syncSteps s (now (work .entry)) []) (now (card .entry)) ⌝ }
+{
+    if k == 0 {
+        return sectors::copy_sector(card, work, Sector(0));
+    }
+    let past = s.geo.s - s.geo.t - 1;
+    if k <= past {
+        return sectors::copy_sector(card, work, Sector(s.geo.t + k));
+    }
+    if k != past + 2 {
+        return;
+    }
+    let block = table_block(s, work);
+    sectors::write_sector(card, Sector(1 + s.c.0 / 128), &block)
+}
+
+// The first k steps of sync.
+pub fn sync_steps(s: Opened, card: &mut [u8], work: &[u8], k: u32)
     requires { ⌜ CanSync s (now card) (now work) ⌝ }
     ensures { λ _. ⌜ now (card .exit) ≡ applySteps (take k (syncSteps s (now (work .entry)) [])) (now (card .entry)) ⌝ }
 {
-    let from = s.geo.t + 1;
-    let n = s.geo.s - from;
-    let one = least(k, 1);
-    let rest = least(k - one as usize, n);
-    sectors::copy_sectors(card, work, Sector(0), one);
-    sectors::copy_sectors(card, work, Sector(from), rest);
-    if k < n as usize + 3 {
-        return;
+    let mut i: u32 = 0;
+    while i < k {
+        sync_step(s, card, work, i);
+        i += 1;
     }
-    write_table(s, card, work)
 }
 
 // "Then t grows by 1. At t = 2,147,483,647 it lands too, t stays, and the session is worn"
@@ -84,39 +85,54 @@ pub fn sync_in(s: Opened, card: &mut [u8], work: &mut [u8]) -> Opened
 {
     let c = s.c;
     let t = s.t;
-    sync_steps(s, card, work, ALL);
+    let steps = s.geo.s - s.geo.t + 3;
+    sync_steps(s, card, work, steps);
     mounting::set_word(work, c, t);
     after_sync(s)
 }
 
 // ---- unmount
 
-// Writes sector 0 with C = c, as the working image has it.
-fn write_down(s: Opened, card: &mut [u8], work: &[u8])
-    requires { ⌜ CanSync s (now card) (now work) ⌝ }
-    ensures { λ _. ⌜ now (card .exit) ≡ applySteps (downSteps false s (setWord (s .c .0) (s .t .0) (now (work .entry)))) (now (card .entry)) ⌝ }
+// Sector 0 with C = c, as the working image has it by then.
+fn down_block(s: Opened, work: &[u8]) -> [u8; 512]
+    requires { ⌜ 512 ≤ length (now work) ⌝ }
+    ensures { λ r. ⌜ r ≡ sec (setCount (s .c .0) (setWord (s .c .0) (s .t .0) (now (work .entry)))) 0 ⌝ }
 {
-    let block = mounting::sector_with(work, Sector(0), 0, s.c.0);
-    sectors::write_sector(card, Sector(0), &block)
+    mounting::sector_with(work, Sector(0), 0, s.c.0)
 }
 
-// The first k steps of unmount: those of sync, then sector 0 with C = c; none where the session is worn.
-pub fn unmount_steps(s: Opened, card: &mut [u8], work: &[u8], k: usize)
+// Step number k of unmount: those of sync, then sector 0 with C = c unless the session becomes worn; none where it is worn.
+fn unmount_step(s: Opened, card: &mut [u8], work: &[u8], k: u32)
     requires { ⌜ CanSync s (now card) (now work) ⌝ }
-    ensures { λ _. ⌜ now (card .exit) ≡ applySteps (take k (unmountSteps s (now (work .entry)))) (now (card .entry)) ⌝ }
+    ensures { λ _. ⌜ now (card .exit) ≡ applyStep k (unmountSteps s (now (work .entry))) (now (card .entry)) ⌝ }
 {
     if s.worn {
         return;
     }
-    sync_steps(s, card, work, k);
-    let writes = (s.geo.s - s.geo.t) as usize;
+    let synced = s.geo.s - s.geo.t + 3;
+    if k < synced {
+        return sync_step(s, card, work, k);
+    }
+    if k != synced {
+        return;
+    }
     if s.t.0 == 2147483647 {
         return;
     }
-    if k < writes + 4 {
-        return;
+    let block = down_block(s, work);
+    sectors::write_sector(card, Sector(0), &block)
+}
+
+// The first k steps of unmount.
+pub fn unmount_steps(s: Opened, card: &mut [u8], work: &[u8], k: u32)
+    requires { ⌜ CanSync s (now card) (now work) ⌝ }
+    ensures { λ _. ⌜ now (card .exit) ≡ applySteps (take k (unmountSteps s (now (work .entry)))) (now (card .entry)) ⌝ }
+{
+    let mut i: u32 = 0;
+    while i < k {
+        unmount_step(s, card, work, i);
+        i += 1;
     }
-    write_down(s, card, work)
 }
 
 // The working image after unmount.
@@ -141,6 +157,7 @@ pub fn unmount_in(s: Opened, card: &mut [u8], work: &mut [u8])
     requires { ⌜ CanSync s (now card) (now work) ⌝ }
     ensures { λ _. ⌜ (now (card .exit) ≡ applySteps (unmountSteps s (now (work .entry))) (now (card .entry))) × (now (work .exit) ≡ unmountWork s (now (work .entry))) ⌝ }
 {
-    unmount_steps(s, card, work, ALL);
+    let steps = s.geo.s - s.geo.t + 4;
+    unmount_steps(s, card, work, steps);
     unmount_work(s, work)
 }

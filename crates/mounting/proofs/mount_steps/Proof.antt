@@ -1,44 +1,53 @@
--- None, or the one write. Assumes nothing.
+-- At the head of the loop the first i steps are done. Assumes nothing.
+use mathlib.Core.Path.{_≡_, refl, ap, _∙_}
+use Prim.Native.Nat.{_≤_, _-_}
 use native.Mathlib.Omega.{arith}
-use borrow.Author.Needs.{needs}
-use denote.Ref.{now}
-use Rattle.store.specs.WriteLaws.{count-here, mount-none, mount-some}
+use lib.ListN.{length, take}
+use Rattle.sectors.specs.Sectors.{applySteps}
+use Rattle.sectors.specs.SectorLaws.{applySteps-length, steps-turn}
+use Rattle.store.specs.Steps.{mountSteps}
+use Rattle.store.specs.WriteLaws.{mount-same, mount-begins}
 use Rattle.mounting.proofs.mount_steps.Statement.{statement}
 use Rattle.mounting.proofs.mount_steps.Tie as tie
 
-returns : tie.Need-returns
-returns c = mount-none _ _ (c .if1 .taken)
+abbrev Inv-loop : tie.InvT-loop
+Inv-loop card₀ k i₀ card i = (i ≤ k) × (card ≡ applySteps (take i (mountSteps card₀)) card₀)
 
-word-at-requires : tie.Need-word-at-requires
-word-at-requires c κs = search needs
+abbrev μ-loop : tie.MeasureT-loop
+μ-loop card₀ k i₀ card i = k - i
 
-add-next : tie.Need-add-next
-add-next c = let s = c .before .before .before .before in omega (arith, s .pre .count, s .pre .laid .t, s .pre .laid .room, count-here (now (s .args .card)) (omega arith), c .word-at .ensures)
+loop-holds : tie.Need-loop-holds Inv-loop μ-loop
+unfolding applySteps
+loop-holds c = (omega arith, refl)
 
-sector-with-requires : tie.Need-sector-with-requires
-sector-with-requires c κs = search needs
+mount-step-requires : tie.Need-mount-step-requires Inv-loop μ-loop
+mount-step-requires c κs = mount-begins _ _ _ (c .before .before .loop .inv .1) (c .before .before .before .before .pre)
 
-slice-aggregate-write-sector : tie.Need-slice-aggregate-write-sector
-slice-aggregate-write-sector c = search needs
+add-i : tie.Need-add-i Inv-loop μ-loop
+add-i c = omega arith
 
-write-sector-requires : tie.Need-write-sector-requires
-write-sector-requires c κs = search needs
+loop-less : tie.Need-loop-less Inv-loop μ-loop
+loop-less c = omega arith
 
-same-length : tie.Need-same-length
-same-length c = search needs
+loop-again : tie.Need-loop-again Inv-loop μ-loop
+loop-again c = let inv = c .before .before .before .before .before .loop .inv .1 in (omega arith, steps-turn _ _ _ _ _ inv (c .before .before .mount-step .ensures ∙ mount-same _ _ _ inv))
 
-returns-2 : tie.Need-returns-2
-returns-2 c = mount-some _ _ (c .before .before .before .before .before .before .before .before .before .if1 .left) (omega arith) (c .before .before .before .before .before .before .before .word-at .ensures) (c .before .before .before .before .before .sector-with .ensures) (c .before .before .write-sector .ensures)
+same-length : tie.Need-same-length Inv-loop μ-loop
+same-length c = ap length (c .before .loop .inv .1) ∙ applySteps-length _ _
+
+returns : tie.Need-returns Inv-loop μ-loop
+returns c = let q : c .before .loop .i ≡ c .before .before .before .args .k = omega arith in rw q at (c .before .loop .inv .1)
 
 pub mount-steps-spec : {M : Type 1} → statement M
 mount-steps-spec =
     tie.close
     (tie.spec
-    returns
-    word-at-requires
-    add-next
-    sector-with-requires
-    slice-aggregate-write-sector
-    write-sector-requires
+    Inv-loop
+    μ-loop
+    loop-holds
+    mount-step-requires
+    add-i
+    loop-less
+    loop-again
     same-length
-    returns-2)
+    returns)

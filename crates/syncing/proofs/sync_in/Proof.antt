@@ -1,10 +1,17 @@
 -- All steps, then the word in the working image. Assumes nothing.
+use Prim.Native.Nat.{_+_, _-_}
 use native.Mathlib.Omega.{arith}
-use borrow.Author.Needs.{needs}
 use Rattle.store.specs.Steps.{syncWork}
 use Rattle.store.specs.SyncLaws.{sync-all}
+use borrow.Author.Needs.{needs}
 use Rattle.syncing.proofs.sync_in.Statement.{statement}
 use Rattle.syncing.proofs.sync_in.Tie as tie
+
+sub-steps : tie.Need-sub-steps
+sub-steps c = search needs
+
+add-steps : tie.Need-add-steps
+add-steps c = search needs
 
 sync-steps-requires : tie.Need-sync-steps-requires
 sync-steps-requires c κs = search needs
@@ -23,12 +30,14 @@ same-length-2 c = search needs
 
 returns : tie.Need-returns
 unfolding syncWork
-returns c = (c .after-sync .ensures, (sync-all _ _ 4100 _ (omega arith) (c .before .before .before .before .before .before .before .sync-steps .ensures), c .before .before .before .set-word .ensures))
+returns c = let g = c .before .before .before .before .before .before .before .before .before .before .before .before .before .before .before .args .s .geo in (c .after-sync .ensures, (sync-all _ _ (g .s - g .t + 3) _ (omega arith) (c .before .before .before .before .before .before .before .sync-steps .ensures), c .before .before .before .set-word .ensures))
 
 pub sync-in-spec : {M : Type 1} → statement M
 sync-in-spec =
     tie.close
     (tie.spec
+    sub-steps
+    add-steps
     sync-steps-requires
     set-word-requires
     after-sync-requires

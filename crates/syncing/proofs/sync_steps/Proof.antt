@@ -1,71 +1,54 @@
--- Copies, then the table sector, by how many steps there are. Assumes nothing.
+-- At the head of the loop the first i steps are done. Assumes nothing.
+use mathlib.Core.Path.{_≡_, refl, ap, _∙_}
+use mathlib.Core.List.{[]}
+use Prim.Native.Nat.{_≤_, _-_}
 use native.Mathlib.Omega.{arith}
-use borrow.Author.Needs.{needs}
-use Rattle.store.specs.SyncLaws.{sync-short, sync-long}
+use lib.ListN.{length, take}
+use Rattle.sectors.specs.Sectors.{applySteps}
+use Rattle.sectors.specs.SectorLaws.{applySteps-length, steps-turn}
+use Rattle.store.specs.Steps.{syncSteps}
+use Rattle.store.specs.WriteLaws.{can-still}
 use Rattle.syncing.proofs.sync_steps.Statement.{statement}
 use Rattle.syncing.proofs.sync_steps.Tie as tie
 
-add-from : tie.Need-add-from
-add-from c = search needs
+abbrev Inv-loop : tie.InvT-loop
+Inv-loop s card₀ work k i₀ card i = (i ≤ k) × (card ≡ applySteps (take i (syncSteps s work [])) card₀)
 
-sub-n : tie.Need-sub-n
-sub-n c = search needs
+abbrev μ-loop : tie.MeasureT-loop
+μ-loop s card₀ work k i₀ card i = k - i
 
-least-requires : tie.Need-least-requires
-least-requires c κs = search needs
+loop-holds : tie.Need-loop-holds Inv-loop μ-loop
+unfolding applySteps
+loop-holds c = (omega arith, refl)
 
-cast-least : tie.Need-cast-least
-cast-least c = search needs
+sync-step-requires : tie.Need-sync-step-requires Inv-loop μ-loop
+sync-step-requires c κs = can-still _ _ (c .before .before .before .before .before .pre) (ap length (c .before .before .loop .inv .1) ∙ applySteps-length _ _)
 
-sub-least : tie.Need-sub-least
-sub-least c = search needs
+add-i : tie.Need-add-i Inv-loop μ-loop
+add-i c = omega arith
 
-least-requires-2 : tie.Need-least-requires-2
-least-requires-2 c κs = search needs
+loop-less : tie.Need-loop-less Inv-loop μ-loop
+loop-less c = omega arith
 
-copy-sectors-requires : tie.Need-copy-sectors-requires
-copy-sectors-requires c κs = search needs
+loop-again : tie.Need-loop-again Inv-loop μ-loop
+loop-again c = (omega arith, steps-turn _ _ _ _ _ (c .before .before .before .before .before .loop .inv .1) (c .before .before .sync-step .ensures))
 
-copy-sectors-requires-2 : tie.Need-copy-sectors-requires-2
-copy-sectors-requires-2 c κs = search needs
+same-length : tie.Need-same-length Inv-loop μ-loop
+same-length c = ap length (c .before .loop .inv .1) ∙ applySteps-length _ _
 
-cast-if1 : tie.Need-cast-if1
-cast-if1 c = search needs
-
-add-if1 : tie.Need-add-if1
-add-if1 c = search needs
-
-same-length : tie.Need-same-length
-same-length c = search needs
-
-returns : tie.Need-returns
-returns c = sync-short _ _ _ _ (omega arith) (c .before .before .before .before .before .before .before .before .before .before .least .ensures .0) (c .before .before .before .before .before .before .before .before .before .least2 .ensures .0) (c .before .before .before .before .before .before .before .copy-sectors .ensures) (c .before .before .before .copy-sectors2 .ensures) (c .if1 .taken)
-
-write-table-requires : tie.Need-write-table-requires
-write-table-requires c κs = search needs
-
-same-length-2 : tie.Need-same-length-2
-same-length-2 c = search needs
-
-returns-2 : tie.Need-returns-2
-returns-2 c = sync-long _ _ _ _ (omega arith) (c .before .before .before .before .before .before .before .before .before .before .before .before .before .before .least .ensures .0) (c .before .before .before .before .before .before .before .before .before .before .before .before .before .least2 .ensures .0) (c .before .before .before .before .before .before .before .before .before .before .before .copy-sectors .ensures) (c .before .before .before .before .before .before .before .copy-sectors2 .ensures) (c .before .before .before .before .if1 .left) (c .before .before .write-table .ensures)
+returns : tie.Need-returns Inv-loop μ-loop
+returns c = let q : c .before .loop .i ≡ c .before .before .before .before .args .k = omega arith in rw q at (c .before .loop .inv .1)
 
 pub sync-steps-spec : {M : Type 1} → statement M
 sync-steps-spec =
     tie.close
     (tie.spec
-    add-from
-    sub-n
-    least-requires
-    cast-least
-    sub-least
-    least-requires-2
-    copy-sectors-requires
-    copy-sectors-requires-2
-    cast-if1
-    add-if1
+    Inv-loop
+    μ-loop
+    loop-holds
+    sync-step-requires
+    add-i
+    loop-less
+    loop-again
     same-length
-    returns
-    write-table-requires
-    same-length-2
-    returns-2)
+    returns)

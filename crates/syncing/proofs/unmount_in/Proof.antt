@@ -1,9 +1,16 @@
 -- All steps, and the working image. Assumes nothing.
+use Prim.Native.Nat.{_+_, _-_}
 use native.Mathlib.Omega.{arith}
-use borrow.Author.Needs.{needs}
 use Rattle.store.specs.SyncLaws.{unmount-all}
+use borrow.Author.Needs.{needs}
 use Rattle.syncing.proofs.unmount_in.Statement.{statement}
 use Rattle.syncing.proofs.unmount_in.Tie as tie
+
+sub-steps : tie.Need-sub-steps
+sub-steps c = search needs
+
+add-steps : tie.Need-add-steps
+add-steps c = search needs
 
 unmount-steps-requires : tie.Need-unmount-steps-requires
 unmount-steps-requires c κs = search needs
@@ -18,9 +25,16 @@ same-length-2 : tie.Need-same-length-2
 same-length-2 c = search needs
 
 returns : tie.Need-returns
-returns c = (unmount-all _ _ 4100 _ (omega arith) (c .before .before .before .before .before .before .unmount-steps .ensures), c .before .before .unmount-work .ensures)
+returns c = let g = c .before .before .before .before .before .before .before .before .before .before .before .before .args .s .geo in (unmount-all _ _ (g .s - g .t + 4) _ (omega arith) (c .before .before .before .before .before .before .unmount-steps .ensures), c .before .before .unmount-work .ensures)
 
 pub unmount-in-spec : {M : Type 1} → statement M
 unmount-in-spec =
     tie.close
-    (tie.spec unmount-steps-requires unmount-work-requires same-length same-length-2 returns)
+    (tie.spec
+    sub-steps
+    add-steps
+    unmount-steps-requires
+    unmount-work-requires
+    same-length
+    same-length-2
+    returns)

@@ -1,62 +1,53 @@
--- The steps of sync, then sector 0, by whether the session is or becomes worn and how many steps there are. Assumes nothing.
+-- At the head of the loop the first i steps are done. Assumes nothing.
+use mathlib.Core.Path.{_≡_, refl, ap, _∙_}
+use Prim.Native.Nat.{_≤_, _-_}
 use native.Mathlib.Omega.{arith}
-use borrow.Author.Needs.{needs}
-use denote.Ref.{now}
-use Rattle.store.specs.SyncLaws.{unmount-worn, unmount-top, unmount-short, unmount-long}
+use lib.ListN.{length, take}
+use Rattle.sectors.specs.Sectors.{applySteps}
+use Rattle.sectors.specs.SectorLaws.{applySteps-length, steps-turn}
+use Rattle.store.specs.Steps.{unmountSteps}
+use Rattle.store.specs.WriteLaws.{can-still}
 use Rattle.syncing.proofs.unmount_steps.Statement.{statement}
 use Rattle.syncing.proofs.unmount_steps.Tie as tie
 
-returns : tie.Need-returns
-returns c = let a = c .before .before .before .args in unmount-worn (a .s) (now (a .work)) (a .k) (now (a .card)) (c .if1 .taken)
+abbrev Inv-loop : tie.InvT-loop
+Inv-loop s card₀ work k i₀ card i = (i ≤ k) × (card ≡ applySteps (take i (unmountSteps s work)) card₀)
 
-sync-steps-requires : tie.Need-sync-steps-requires
-sync-steps-requires c κs = search needs
+abbrev μ-loop : tie.MeasureT-loop
+μ-loop s card₀ work k i₀ card i = k - i
 
-sub-writes : tie.Need-sub-writes
-sub-writes c = search needs
+loop-holds : tie.Need-loop-holds Inv-loop μ-loop
+unfolding applySteps
+loop-holds c = (omega arith, refl)
 
-cast-writes : tie.Need-cast-writes
-cast-writes c = search needs
+unmount-step-requires : tie.Need-unmount-step-requires Inv-loop μ-loop
+unmount-step-requires c κs = can-still _ _ (c .before .before .before .before .before .pre) (ap length (c .before .before .loop .inv .1) ∙ applySteps-length _ _)
 
-same-length : tie.Need-same-length
-same-length c = search needs
+add-i : tie.Need-add-i Inv-loop μ-loop
+add-i c = omega arith
 
-returns-2 : tie.Need-returns-2
-returns-2 c = let a = c .before .before .before .before .before .before .before .before .before .before .args in unmount-top (a .s) (now (a .work)) (a .k) (c .before .before .before .before .before .before .before .if1 .left) (now (a .card)) (c .before .before .before .before .before .sync-steps .ensures) (c .if2 .taken)
+loop-less : tie.Need-loop-less Inv-loop μ-loop
+loop-less c = omega arith
 
-add-if3 : tie.Need-add-if3
-add-if3 c = search needs
+loop-again : tie.Need-loop-again Inv-loop μ-loop
+loop-again c = (omega arith, steps-turn _ _ _ _ _ (c .before .before .before .before .before .loop .inv .1) (c .before .before .unmount-step .ensures))
 
-same-length-2 : tie.Need-same-length-2
-same-length-2 c = search needs
+same-length : tie.Need-same-length Inv-loop μ-loop
+same-length c = ap length (c .before .loop .inv .1) ∙ applySteps-length _ _
 
-returns-3 : tie.Need-returns-3
-returns-3 c = let a = c .before .before .before .before .before .before .before .before .before .before .before .args in unmount-short (a .s) (now (a .work)) (a .k) (c .before .before .before .before .before .before .before .before .if1 .left) (now (a .card)) (c .before .before .before .before .before .before .sync-steps .ensures) (c .before .if2 .left) (omega arith)
-
-write-down-requires : tie.Need-write-down-requires
-write-down-requires c κs = search needs
-
-same-length-3 : tie.Need-same-length-3
-same-length-3 c = search needs
-
-returns-4 : tie.Need-returns-4
-returns-4 c =
-    let a = c .before .before .before .before .before .before .before .before .before .before .before .before .before .before .before .args in
-    unmount-long (a .s) (now (a .work)) (a .k) (c .before .before .before .before .before .before .before .before .before .before .before .before .if1 .left) (now (a .card)) (c .before .before .before .before .before .before .before .before .before .before .sync-steps .ensures) (c .before .before .before .before .before .if2 .left) (omega arith) (c .before .before .write-down .ensures)
+returns : tie.Need-returns Inv-loop μ-loop
+returns c = let q : c .before .loop .i ≡ c .before .before .before .before .args .k = omega arith in rw q at (c .before .loop .inv .1)
 
 pub unmount-steps-spec : {M : Type 1} → statement M
 unmount-steps-spec =
     tie.close
     (tie.spec
-    returns
-    sync-steps-requires
-    sub-writes
-    cast-writes
+    Inv-loop
+    μ-loop
+    loop-holds
+    unmount-step-requires
+    add-i
+    loop-less
+    loop-again
     same-length
-    returns-2
-    add-if3
-    same-length-2
-    returns-3
-    write-down-requires
-    same-length-3
-    returns-4)
+    returns)
