@@ -30,7 +30,7 @@ module _ (g : Geo) (ok : geoOk g ≡ true) where
 
   pub page-good : pageOk g (cover []) (freshPage g) ≡ true
   page-good =
-      bits-page g (cover []) (freshPage g) (L .sHigh) (page-length g) (fresh-bytes g)
+      bits-page g (cover []) (freshPage g) (L .sHigh) (page-length g) (λ j b. fresh-bytes g j)
       (λ n h. fresh-bit g (record { s = L .sHigh; t = L .tHigh; d = L .dHigh }) n h ∙ (unfold wanted cover in refl))
 
   -- ---- the page

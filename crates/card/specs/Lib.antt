@@ -23,3 +23,7 @@ pub mod LineLaws
 pub mod ViewLaws
 pub mod SoundTests
 pub mod ReadLaws
+pub mod Means
+pub mod MeansParts
+pub mod MeansBits
+pub mod MeansProved

@@ -22,8 +22,8 @@ byte-bit p j c h =
     let e : (8 * j + c) / 8 ≡ j = omega arith in
     let f : (8 * j + c) % 8 ≡ c = omega arith in rw (e, f)
 
--- a page with the bits wanted passes, if it is made of bytes
-pub bits-page : (g : Geo) (f : ℕ → ℕ) (p : List ℕ) → g .s ≤ 4096 → length p ≡ 512 → ((j : ℕ) → getD p j 0 < 256) → ((n : ℕ) → n < 4096 → bitAt p n ≡ wanted g f n) → pageOk g f p ≡ true
+-- a page with the bits wanted passes, if it is made of bytes past S
+pub bits-page : (g : Geo) (f : ℕ → ℕ) (p : List ℕ) → g .s ≤ 4096 → length p ≡ 512 → ((j : ℕ) → g .s ≤ 8 * j → getD p j 0 < 256) → ((n : ℕ) → n < 4096 → bitAt p n ≡ wanted g f n) → pageOk g f p ≡ true
 unfolding bytesToS
 bits-page g f p small size bytes h = page-ok g f p (omega arith) (λ n l. h n (omega arith)) high
   where
@@ -32,7 +32,7 @@ bits-page g f p small size bytes h = page-ok g f p (omega arith) (λ n l. h n (o
 
     byte : (j : ℕ) → k ≤ j → j < 512 → getD p j 0 ≡ 255
     byte j a b =
-        digits-ext 8 (getD p j 0) 255 (bytes j) (omega arith)
+        digits-ext 8 (getD p j 0) 255 (bytes j (omega arith)) (omega arith)
         (λ c l. byte-bit p j c l ∙ h (8 * j + c) (omega arith) ∙ wanted-out g f (8 * j + c) (λ q. omega (arith, q .1)) ∙ sym (digit-full c l))
 
     high : every isFull (drop k p) ≡ true
@@ -49,7 +49,7 @@ page-is g f m p s l k x y h = go (eqList m p) (pageOk g f p) refl refl
     go : (a b : Bool) → eqList m p ≡ a → pageOk g f p ≡ b → a ≡ b
     go true true e d = refl
     go false false e d = refl
-    go true false e d = sym (sym d ∙ ap (λ (z : List ℕ). pageOk g f z) (sym (eqList-eq m p e)) ∙ bits-page g f m s l x h)
+    go true false e d = sym (sym d ∙ ap (λ (z : List ℕ). pageOk g f z) (sym (eqList-eq m p e)) ∙ bits-page g f m s l (λ j b. x j) h)
     go false true e d =
         let q : m ≡ p = pages-ext m p (l ∙ sym k) x y (λ n b. h n (omega arith) ∙ sym (page-bits g f p (omega arith) d n (omega arith))) in
         sym e ∙ ap (λ (z : List ℕ). eqList m z) (sym q) ∙ eqList-refl m

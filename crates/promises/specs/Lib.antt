@@ -5,7 +5,6 @@ pub mod NumbersWhole
 pub mod NumbersFile
 pub mod NumbersProved
 pub mod Refusals
-pub mod Unique
 pub mod PlainCalls
 pub mod ListLaws
 pub mod ViewShows
@@ -52,3 +51,4 @@ pub mod Trials
 pub mod TrialsStore
 pub mod TrialsSync
 pub mod TrialsTable
+pub mod TrialsBuild

@@ -14,17 +14,19 @@ use Rattle.counts.specs.declared.Geo.{Geo}
 use Rattle.counts.specs.Geometry.{geoOk, geoOf}
 use Rattle.counts.specs.GeoLaws.{limits}
 use Rattle.card.specs.declared.Line.{Line}
-use Rattle.card.specs.Sound.{sound}
+use Rattle.card.specs.Means.{Sound}
 use Rattle.card.specs.Make.{make}
 use Rattle.card.specs.Reading.{read, readList, readGet}
 use Rattle.session.specs.declared.Session.{Session}
 use Rattle.session.specs.declared.Session.the-variants.{Closed, Open}
+use Rattle.session.specs.FitMeansProved.{fits-mean}
 use Rattle.store.specs.Mount.{mount}
 use Rattle.store.specs.Edit.{put, remove}
 use Rattle.store.specs.Look.{get, list, free}
 use Rattle.store.specs.Sync.{land, sync, unmount}
 use Rattle.promises.specs.Numbers.{Row, row, Gives, Exactly, Misshapen, closed, ofCard, unfit, makeRows, mountRows, putRows, removeRows, getRows, listRows, freeRows, landRows, syncRows, unmountRows, readRows, readListRows, readGetRows}
 use Rattle.promises.specs.RowLaws.{small, at-most, clash}
+use Rattle.promises.specs.NumbersWhole.{outside, shaped-means}
 use Rattle.promises.specs.NumbersProved.{numbers}
 use Rattle.promises.specs.History.{World, Reach}
 use Rattle.promises.specs.FitHistory.{FitOf, always-fits}
@@ -78,7 +80,7 @@ lacks k (r ∷ rows) h (inr g) = lacks k rows (both (not (eqb k (r .number))) _ 
 fitting : (s : Session) (work : List ℕ) (rows : List Row) → FitOf s work → other 2 rows ≡ true → ¬ Gives (closed s ∷ unfit s work ∷ rows) 2
 fitting s work rows f l (inl g) = omega (arith, g .1)
 fitting Closed work rows f l (inr g) = g .0 refl
-fitting (Open s) work rows f l (inr (n, inl g)) = clash f (g .0)
+fitting (Open s) work rows f l (inr (n, inl g)) = g .0 (fits-mean s work .0 f)
 fitting (Open s) work rows f l (inr (n, inr g)) = lacks 2 rows l (g .1)
 
 fitting-card : (s : Session) (card work : List ℕ) (rows : List Row) → FitOf s work → other 2 rows ≡ true → ¬ Gives (closed s ∷ ofCard s card ∷ unfit s work ∷ rows) 2
@@ -86,9 +88,9 @@ fitting-card s card work rows f l (inl g) = omega (arith, g .1)
 fitting-card s card work rows f l (inr (n, inl g)) = omega (arith, g .1)
 fitting-card s card work rows f l (inr (n, inr (m, g))) = fitting s work rows f l (inr (n, g))
 
-sound-card : (img : List ℕ) (P : Type 0) (rows : List Row) → sound img ≡ true → other 2 rows ≡ true → ¬ Gives (row 1 P ∷ row 2 (sound img ≡ false) ∷ rows) 2
+sound-card : (img : List ℕ) (P : Type 0) (rows : List Row) → Sound img → other 2 rows ≡ true → ¬ Gives (row 1 P ∷ row 2 (¬ Sound img) ∷ rows) 2
 sound-card img P rows f l (inl g) = omega (arith, g .1)
-sound-card img P rows f l (inr (n, inl g)) = clash f (g .0)
+sound-card img P rows f l (inr (n, inl g)) = g .0 f
 sound-card img P rows f l (inr (n, inr g)) = lacks 2 rows l (g .1)
 
 -- the rows after the first
@@ -99,7 +101,8 @@ rest (r ∷ rows) = rows
 pub no-two : {w : World} → Reach w → NoTwo w
 no-two {w} r =
     let f = always-fits r in
-    let c : sound (w .card) ≡ true = card-possible w r .1 .isSound in
+    let R = card-possible w r .1 in
+    let c : Sound (w .card) = shaped-means (w .card) (R .shape) .0 (R .isSound) in
     record {
       ofPut = λ n d e. fitting (w .session) (w .work) (rest (rest (putRows (w .session) (w .work) n d))) f refl (numbers .ofPut (w .session) (w .work) n d 2 .0 e);
       ofRemove = λ n e. fitting (w .session) (w .work) (rest (rest (removeRows (w .session) (w .work) n))) f refl (numbers .ofRemove (w .session) (w .work) n 2 .0 e);
@@ -144,4 +147,4 @@ too-short img h = go (geoOk (geoOf (sec img))) refl
   where
     go : (b : Bool) → geoOk (geoOf (sec img)) ≡ b → Misshapen img
     go true e = inr (λ q. let L = limits (geoOf (sec img)) e in omega (arith, L .sLow))
-    go false e = inl e
+    go false e = inl (outside (geoOf (sec img)) e)

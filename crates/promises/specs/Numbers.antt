@@ -1,27 +1,27 @@
 -- Demand 2, "Numbers given back", stated: each call gives number k exactly when the table says so, in its order of tests. Assumes nothing.
 use mathlib.Core.Path.{_≡_}
-use mathlib.Core.Bool.{true, false}
+use mathlib.Core.Bool.{true}
 use mathlib.Core.List.{List, [], _∷_}
 use mathlib.Core.Logic.{_⊎_, _≢_, _↔_}
 use Prim.Native.Nat.{ℕ, _+_, _*_, _≤_, _<_}
 use lib.ListN.{length, getD}
 use Rattle.sectors.specs.Sectors.{sec}
 use Rattle.counts.specs.declared.Geo.{Geo}
-use Rattle.counts.specs.Geometry.{gN, gF, geoOk, geoOf, countOf, tableOf}
+use Rattle.counts.specs.Geometry.{gN, gF, geoOf, countOf, tableOf}
 use Rattle.entries.specs.declared.Version.the-variants.{Absent}
-use Rattle.entries.specs.Entries.{shown, nameOf, goodName, sectorsFor}
+use Rattle.entries.specs.Entries.{shown, nameOf, sectorsFor}
 use Rattle.directory.specs.Directory.{entriesOf}
 use Rattle.apages.specs.Bits.{bitAt}
 use Rattle.card.specs.declared.Line.{Line}
 use Rattle.card.specs.Files.{runOf}
-use Rattle.card.specs.Sound.{sound}
+use Rattle.card.specs.Means.{InLimits, GoodName, ShowsFile, Each, Sound}
 use Rattle.card.specs.Make.{make}
 use Rattle.card.specs.Reading.{filesShown, read, readList, readGet}
 use Rattle.session.specs.declared.Opened.{Opened}
 use Rattle.session.specs.declared.Session.{Session}
 use Rattle.session.specs.declared.Session.the-variants.{Closed, Open}
 use Rattle.session.specs.Views.{presentTable, cutTable, presentPage, cutPage, presentFiles}
-use Rattle.session.specs.Fits.{fits}
+use Rattle.session.specs.FitMeans.{Fits}
 use Rattle.store.specs.Mount.{mount}
 use Rattle.store.specs.Edit.{put, remove}
 use Rattle.store.specs.Look.{get, list, free}
@@ -44,7 +44,7 @@ Gives (r ∷ rs) k = (r .due × (k ≡ r .number)) ⊎ ((¬ r .due) × Gives rs 
 
 -- 1: "geometry outside the limits, an image not of 512·S bytes for the S .. stored, or too short to store one"
 abbrev pub Misshapen : List ℕ → Type 0
-Misshapen img = (geoOk (geoOf (sec img)) ≡ false) ⊎ (length img ≢ 512 * geoOf (sec img) .s)
+Misshapen img = (¬ InLimits (geoOf (sec img))) ⊎ (length img ≢ 512 * geoOf (sec img) .s)
 
 -- what is said of an open session
 abbrev pub When : Session → (Opened → Type 0) → Type 0
@@ -53,11 +53,7 @@ When (Open s) P = P s
 
 -- an entry shows a file of that name in a view
 abbrev pub Shows : List ℕ → List ℕ → List ℕ → Type 0
-Shows tab n p = (shown tab p ≢ Absent) × (nameOf p ≡ n)
-
--- every entry of an image, by its index
-abbrev pub Each : Geo → List ℕ → (List ℕ → Type 0) → Type 0
-Each g img P = (i : ℕ) → i < length (entriesOf g (sec img)) → P (getD (entriesOf g (sec img)) i [])
+Shows tab n p = ShowsFile tab p × (nameOf p ≡ n)
 
 -- 6: "no such file in the present view"
 abbrev pub NoFile : Geo → List ℕ → List ℕ → List ℕ → Type 0
@@ -82,6 +78,7 @@ TooLong g tab img n out =
     (i : ℕ) × (i < length (entriesOf g (sec img))) × Shows tab n (getD (entriesOf g (sec img)) i [])
     × (length out < runOf (shown tab (getD (entriesOf g (sec img)) i [])) .bytes)
 
+-- 4: "the session is closed"; 1 of a session call; 2: "the session does not fit"; 9; 5: "name length or byte outside the rule"
 abbrev pub closed : Session → Row
 closed s = row 4 (s ≡ Closed)
 
@@ -89,23 +86,23 @@ abbrev pub ofCard : Session → List ℕ → Row
 ofCard s card = row 1 (When s (λ o. length card ≢ 512 * o .geo .s))
 
 abbrev pub unfit : Session → List ℕ → Row
-unfit s work = row 2 (When s (λ o. fits o work ≡ false))
+unfit s work = row 2 (When s (λ o. ¬ Fits o work))
 
 abbrev pub worn : Session → Row
 worn s = row 9 (When s (λ o. o .worn ≡ true))
 
 abbrev pub badName : List ℕ → Row
-badName n = row 5 (goodName n ≡ false)
+badName n = row 5 (¬ GoodName n)
 
 -- ---- the orders: "make 1; mount 1, 2, 3; put 4, 2, 9, 5, 7, 8; remove 4, 2, 9, 5, 6; get 4, 2, 5, 6, 10; list 4, 2, 10; free 4, 2;
 -- land 4, 1, 2, 11; sync 4, 1, 2, 9; unmount 4, 1, 2"; reading 1, 2, "its own list (1, 2, 10) and get (1, 2, 5, 6, 10)"
 
 abbrev pub makeRows : Geo → List ℕ → List Row
-makeRows g card = row 1 ((geoOk g ≡ false) ⊎ (length card ≢ 512 * g .s)) ∷ []
+makeRows g card = row 1 ((¬ InLimits g) ⊎ (length card ≢ 512 * g .s)) ∷ []
 
 abbrev pub mountRows : List ℕ → List ℕ → List Row
 mountRows card work =
-    row 1 (Misshapen card ⊎ (length work ≢ length card)) ∷ row 2 (sound card ≡ false) ∷ row 3 (countOf (sec card) ≡ gN (geoOf (sec card))) ∷ []
+    row 1 (Misshapen card ⊎ (length work ≢ length card)) ∷ row 2 (¬ Sound card) ∷ row 3 (countOf (sec card) ≡ gN (geoOf (sec card))) ∷ []
 
 abbrev pub putRows : Session → List ℕ → List ℕ → List ℕ → List Row
 putRows s work n d =
@@ -137,14 +134,14 @@ abbrev pub unmountRows : Session → List ℕ → List ℕ → List Row
 unmountRows s card work = closed s ∷ ofCard s card ∷ unfit s work ∷ []
 
 abbrev pub readRows : List ℕ → List Row
-readRows img = row 1 (Misshapen img) ∷ row 2 (sound img ≡ false) ∷ []
+readRows img = row 1 (Misshapen img) ∷ row 2 (¬ Sound img) ∷ []
 
 abbrev pub readListRows : List ℕ → List Line → List Row
-readListRows img lines = row 1 (Misshapen img) ∷ row 2 (sound img ≡ false) ∷ row 10 (length lines < length (filesShown img)) ∷ []
+readListRows img lines = row 1 (Misshapen img) ∷ row 2 (¬ Sound img) ∷ row 10 (length lines < length (filesShown img)) ∷ []
 
 abbrev pub readGetRows : List ℕ → List ℕ → List ℕ → List Row
 readGetRows img n out =
-    row 1 (Misshapen img) ∷ row 2 (sound img ≡ false) ∷ badName n ∷ row 6 (NoFile (geoOf (sec img)) (tableOf (geoOf (sec img)) (sec img)) img n)
+    row 1 (Misshapen img) ∷ row 2 (¬ Sound img) ∷ badName n ∷ row 6 (NoFile (geoOf (sec img)) (tableOf (geoOf (sec img)) (sec img)) img n)
     ∷ row 10 (TooLong (geoOf (sec img)) (tableOf (geoOf (sec img)) (sec img)) img n out) ∷ []
 
 -- ---- the statement: "given exactly when"

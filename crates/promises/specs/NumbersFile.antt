@@ -23,16 +23,18 @@ use Rattle.card.specs.Files.{runOf, runAt, getPlan, getEnd}
 use Rattle.card.specs.SoundLaws.{sound-inv}
 use Rattle.card.specs.Sound.{sound}
 use Rattle.card.specs.Reading.{readGet}
+use Rattle.card.specs.MeansParts.{name-means}
 use Rattle.session.specs.declared.Opened.{Opened}
 use Rattle.session.specs.declared.Session.{Session}
 use Rattle.session.specs.declared.Session.the-variants.{Closed, Open}
 use Rattle.session.specs.Views.{presentTable, cutTable}
 use Rattle.session.specs.Fits.{fits}
 use Rattle.session.specs.FitLaws.{fit-inv}
+use Rattle.session.specs.FitMeansProved.{fits-mean}
 use Rattle.store.specs.Edit.{orElse, putPlace, placeIn, removePlan, remove}
 use Rattle.store.specs.Look.{get}
 use Rattle.promises.specs.Numbers.{row, Exactly, Shows, NoFile, NoEntry, TooLong, badName, removeRows, getRows, readGetRows}
-use Rattle.promises.specs.RowLaws.{Follows, exactly, numberOf, ended-number, done-row, guard-row, need-row, test-row, not-row, clash, closed-row, open-row}
+use Rattle.promises.specs.RowLaws.{Follows, exactly, numberOf, ended-number, done-row, guard-row, need-row, means-row, not-row, clash, closed-row, open-row}
 use Rattle.promises.specs.NumbersWhole.{reading}
 
 -- ---- 6: a name in one view
@@ -72,7 +74,7 @@ module _ (g : Geo) (tab img n : List ℕ) where
     pub get-rows : Follows (badName n ∷ row 6 (NoFile g tab img n) ∷ row 10 (TooLong g tab img n out) ∷ []) (getPlan g tab img n out)
     unfolding getPlan
     get-rows =
-        test-row 5 (goodName n) _ _
+        means-row 5 (goodName n) _ _ (name-means n)
         (λ e. need-row 6 (firstAt (named tab tab n) 0 ps) _ (NoFile g tab img n) _ no-file a-file
         (λ j f. guard-row 10 (leb (runAt g tab img j .bytes) (length out)) (doIt j 0) (TooLong g tab img n out) [] (too-long j f) (fits-out j f) (λ h. done-row)))
 
@@ -85,7 +87,7 @@ unfolding get refused numberOf
 of-get Closed work n out = exactly {rows = getRows Closed work n out} {p = refuse 4} refl closed-row
 of-get (Open s) work n out =
     exactly (get-number (s .geo) (presentTable s (sec work)) work n out _)
-    (open-row s (test-row 2 (fits s work) _ _
+    (open-row s (means-row 2 (fits s work) _ _ (fits-mean s work)
     (λ f. get-rows (s .geo) (presentTable s (sec work)) work n (tableOf (s .geo) (sec work)) out (fit-inv s work f .alone))))
 
 pub of-read-get : (img n out : List ℕ) → Exactly (readGet img n out .answer .number) (readGetRows img n out)
@@ -105,7 +107,7 @@ unfolding remove refused done numberOf removePlan
 of-remove Closed work n = exactly {rows = removeRows Closed work n} {p = refuse 4} refl closed-row
 of-remove (Open s) work n =
     exactly (ended-number (λ (r : Changed). r .answer .number) _ _ (λ k. refl) (λ j a. refl) (removePlan s work n))
-    (open-row s (test-row 2 (fits s work) _ _ (λ f. not-row 9 (s .worn) _ _ (λ w. test-row 5 (goodName n) _ _
+    (open-row s (means-row 2 (fits s work) _ _ (fits-mean s work) (λ f. not-row 9 (s .worn) _ _ (λ w. means-row 5 (goodName n) _ _ (name-means n)
     (λ e. need-row 6 (firstAt (named (presentTable s (sec work)) (presentTable s (sec work)) n) 0 (entriesOf (s .geo) (sec work))) _ _ _
     (no-file (s .geo) (presentTable s (sec work)) work n) (a-file (s .geo) (presentTable s (sec work)) work n) (λ j h. done-row))))))
 

@@ -12,17 +12,19 @@ use Rattle.entries.specs.Entries.{goodName, sectorsFor}
 use Rattle.apages.specs.Runs.{runFor}
 use Rattle.apages.specs.LowestLaws.{run-nowhere}
 use Rattle.card.specs.Plan.{refuse, refused, done, Changed}
+use Rattle.card.specs.MeansParts.{name-means}
 use Rattle.session.specs.declared.Opened.{Opened}
 use Rattle.session.specs.declared.Session.{Session}
 use Rattle.session.specs.declared.Session.the-variants.{Closed, Open}
 use Rattle.session.specs.Views.{presentPage, cutPage}
 use Rattle.session.specs.Fits.{fits}
 use Rattle.session.specs.FitLaws.{Fit, fit-inv}
+use Rattle.session.specs.FitMeansProved.{fits-mean}
 use Rattle.store.specs.Edit.{placeIn, runIn, putPlan, put}
 use Rattle.store.specs.Look.{free}
 use Rattle.store.specs.RoomLaws.{present-wide, alike, room-in}
 use Rattle.promises.specs.Numbers.{Exactly, NoRoom, putRows, Numbers}
-use Rattle.promises.specs.RowLaws.{exactly, numberOf, ended-number, done-row, need-row, test-row, not-row, closed-row, open-row}
+use Rattle.promises.specs.RowLaws.{exactly, numberOf, ended-number, done-row, need-row, means-row, not-row, closed-row, open-row}
 use Rattle.promises.specs.NumbersWhole.{of-make, of-mount, of-list, of-free, of-land, of-sync, of-unmount, of-read, of-read-list}
 use Rattle.promises.specs.NumbersFile.{of-get, of-read-get, of-remove, no-entry, an-entry}
 
@@ -52,7 +54,7 @@ unfolding put refused done numberOf putPlan
 of-put Closed work n d = exactly {rows = putRows Closed work n d} {p = refuse 4} refl closed-row
 of-put (Open s) work n d =
     exactly (ended-number (λ (r : Changed). r .answer .number) _ _ (λ k. refl) (λ j a. refl) (putPlan s work n d))
-    (open-row s (test-row 2 (fits s work) _ _ (λ f. not-row 9 (s .worn) _ _ (λ w. test-row 5 (goodName n) _ _
+    (open-row s (means-row 2 (fits s work) _ _ (fits-mean s work) (λ f. not-row 9 (s .worn) _ _ (λ w. means-row 5 (goodName n) _ _ (name-means n)
     (λ e. need-row 7 (placeIn s work n) _ _ _ (no-entry s work n) (an-entry s work n)
     (λ j h. need-row 8 (runIn s work (sectorsFor (length d))) _ _ _
     (no-room s work (fit-inv s work f) (sectorsFor (length d))) (a-room s work (fit-inv s work f) (sectorsFor (length d))) (λ a i. done-row)))))))

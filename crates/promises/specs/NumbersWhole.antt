@@ -2,7 +2,7 @@
 use mathlib.Core.Path.{_≡_, refl}
 use mathlib.Core.Bool.{true, false, not, _&&_}
 use mathlib.Core.List.{List, [], _∷_}
-use mathlib.Core.Logic.{inl, inr, ⊎-elim, _≢_}
+use mathlib.Core.Logic.{inl, inr, ⊎-elim, _≢_, _↔_}
 use Prim.Native.Nat.{ℕ, _*_, _≤_}
 use native.Mathlib.Omega.{arith}
 use borrow.Author.Tests.{eqb-true, eqb-false, ltb-true, ltb-false, leb-true}
@@ -18,6 +18,10 @@ use Rattle.card.specs.declared.Report.{Report}
 use Rattle.card.specs.Plan.{Plan, refuse, guard, doIt, refused, done, Changed, Listed}
 use Rattle.card.specs.Files.{listPlan, listEnd}
 use Rattle.card.specs.Sound.{soundIn, shapeOk, sound}
+use Rattle.card.specs.SoundLaws.{shape-inv}
+use Rattle.card.specs.Means.{InLimits, Sound}
+use Rattle.card.specs.MeansParts.{limits-mean}
+use Rattle.card.specs.MeansProved.{sound-means}
 use Rattle.card.specs.Make.{makePlan, make}
 use Rattle.card.specs.Reading.{filesShown, readPlan, read, readList}
 use Rattle.session.specs.declared.Opened.{Opened}
@@ -25,31 +29,40 @@ use Rattle.session.specs.declared.Session.{Session}
 use Rattle.session.specs.declared.Session.the-variants.{Closed, Open}
 use Rattle.session.specs.Views.{presentFiles}
 use Rattle.session.specs.Fits.{fits}
+use Rattle.session.specs.FitMeans.{Fits}
+use Rattle.session.specs.FitMeansProved.{fits-mean}
 use Rattle.store.specs.Mount.{Ended, mountPlan, mountDone, mount}
 use Rattle.store.specs.Look.{list, free}
 use Rattle.store.specs.Sync.{bothPlan, land, syncDone, sync, unmountDone, unmount}
 use Rattle.promises.specs.Numbers.{Row, row, Exactly, Misshapen, closed, makeRows, mountRows, listRows, freeRows, landRows, syncRows, unmountRows, readRows, readListRows}
-use Rattle.promises.specs.RowLaws.{Follows, exactly, numberOf, ended-number, done-row, guard-row, test-row, not-row, eq-row, le-row, lt-row, and-fails, clash, closed-row, open-row}
+use Rattle.promises.specs.RowLaws.{Follows, exactly, numberOf, ended-number, done-row, guard-row, means-row, not-row, eq-row, le-row, lt-row, and-fails, clash, closed-row, open-row}
 
 -- ---- the shape of a card
+
+pub outside : (g : Geo) → geoOk g ≡ false → ¬ InLimits g
+outside g e L = clash (limits-mean g .1 L) e
 
 pub misshapen : (img : List ℕ) → shapeOk img ≡ false → Misshapen img
 unfolding shapeOk
 misshapen img h =
-    ⊎-elim (λ q. inl q) (λ q. inr (eqb-false _ _ q)) (and-fails (geoOk (geoOf (sec img))) (eqb (length img) (512 * geoOf (sec img) .s)) h)
+    ⊎-elim (λ q. inl (outside (geoOf (sec img)) q)) (λ q. inr (eqb-false _ _ q)) (and-fails (geoOk (geoOf (sec img))) (eqb (length img) (512 * geoOf (sec img) .s)) h)
 
 pub shapely : (img : List ℕ) → shapeOk img ≡ true → ¬ Misshapen img
 unfolding shapeOk
 shapely img h m =
     let (a, b) = both (geoOk (geoOf (sec img))) (eqb (length img) (512 * geoOf (sec img) .s)) h in
-    ⊎-elim (λ q. clash a q) (λ q. q (eqb-true _ _ b)) m
+    ⊎-elim (λ q. q (limits-mean (geoOf (sec img)) .0 a)) (λ q. q (eqb-true _ _ b)) m
+
+-- a card of the right shape is sound exactly when the clauses hold
+pub shaped-means : (img : List ℕ) → shapeOk img ≡ true → (sound img ≡ true) ↔ Sound img
+shaped-means img h = let (a, b) = shape-inv img h in sound-means img (limits-mean (geoOf (sec img)) .0 a) b
 
 -- the first two rows of every reading call
 pub reading : (img : List ℕ) (p : Plan) (rows : List Row) → (shapeOk img ≡ true → sound img ≡ true → Follows rows p)
-    → Follows (row 1 (Misshapen img) ∷ row 2 (sound img ≡ false) ∷ rows) (readPlan img p)
+    → Follows (row 1 (Misshapen img) ∷ row 2 (¬ Sound img) ∷ rows) (readPlan img p)
 unfolding readPlan
 reading img p rows g =
-    guard-row 1 (shapeOk img) _ (Misshapen img) _ (misshapen img) (shapely img) (λ e. test-row 2 (sound img) p rows (g e))
+    guard-row 1 (shapeOk img) _ (Misshapen img) _ (misshapen img) (shapely img) (λ e. means-row 2 (sound img) p rows (shaped-means img e) (g e))
 
 -- ---- make and mount
 
@@ -59,9 +72,9 @@ of-make g card =
     exactly
     (ended-number (λ (r : Changed). r .answer .number) _ _ (λ k. refl) (λ j a. refl) (makePlan g card))
     (guard-row 1 (geoOk g && eqb (length card) (512 * g .s)) (doIt 0 0) _ []
-    (λ e. ⊎-elim (λ q. inl q) (λ q. inr (eqb-false _ _ q)) (and-fails (geoOk g) (eqb (length card) (512 * g .s)) e))
+    (λ e. ⊎-elim (λ q. inl (outside g q)) (λ q. inr (eqb-false _ _ q)) (and-fails (geoOk g) (eqb (length card) (512 * g .s)) e))
     (λ e m. let (a, b) = both (geoOk g) (eqb (length card) (512 * g .s)) e in
-    ⊎-elim (λ q. clash a q) (λ q. q (eqb-true _ _ b)) m)
+    ⊎-elim (λ q. q (limits-mean g .0 a)) (λ q. q (eqb-true _ _ b)) m)
     (λ e. done-row))
 
 -- a sound card has C at most N
@@ -81,7 +94,7 @@ of-mount card work =
     (guard-row 1 (shapeOk card && eqb (length work) (length card)) _ _ _
     (λ e. ⊎-elim (λ q. inl (misshapen card q)) (λ q. inr (eqb-false _ _ q)) (and-fails (shapeOk card) (eqb (length work) (length card)) e))
     (λ e m. let (a, b) = both (shapeOk card) (eqb (length work) (length card)) e in ⊎-elim (shapely card a) (λ q. q (eqb-true _ _ b)) m)
-    (λ e. test-row 2 (sound card) _ _
+    (λ e. means-row 2 (sound card) _ _ (shaped-means card (both (shapeOk card) (eqb (length work) (length card)) e .0))
     (λ s. guard-row 3 (ltb (countOf (sec card)) (gN (geoOf (sec card)))) (doIt 0 0) (countOf (sec card) ≡ gN (geoOf (sec card))) [] (λ l. omega (arith, ltb-false (countOf (sec card)) (gN (geoOf (sec card))) l, count-most card s))
     (λ l q. omega (arith, q, ltb-true (countOf (sec card)) (gN (geoOf (sec card))) l)) (λ l. done-row))))
 
@@ -111,7 +124,7 @@ unfolding list refused listPlan numberOf
 of-list Closed work lines = exactly {rows = listRows Closed work lines} {p = refuse 4} refl closed-row
 of-list (Open s) work lines =
     exactly (list-number (presentFiles s (sec work)) lines _)
-    (open-row s (test-row 2 (fits s work) _ _
+    (open-row s (means-row 2 (fits s work) _ _ (fits-mean s work)
     (λ e. le-row 10 (length (presentFiles s (sec work))) (length lines) (doIt 0 0) [] (λ l. done-row))))
 
 pub of-free : (s : Session) (work : List ℕ) → Exactly (free s work .number) (freeRows s work)
@@ -120,14 +133,14 @@ of-free Closed work = exactly {rows = freeRows Closed work} {p = refuse 4} refl 
 of-free (Open s) work =
     exactly
     (ended-number (λ (r : Answer). r .number) _ _ (λ k. refl) (λ j a. refl) (guard 2 (fits s work) (doIt 0 0)))
-    (open-row s (test-row 2 (fits s work) (doIt 0 0) [] (λ e. done-row)))
+    (open-row s (means-row 2 (fits s work) (doIt 0 0) [] (fits-mean s work) (λ e. done-row)))
 
 -- the first rows of the calls with two images
 pub two-images : (s : Opened) (card work : List ℕ) (p : Plan) (rows : List Row) → Follows rows p
-    → Follows (closed (Open s) ∷ row 1 (length card ≢ 512 * s .geo .s) ∷ row 2 (fits s work ≡ false) ∷ rows) (bothPlan s card work p)
+    → Follows (closed (Open s) ∷ row 1 (length card ≢ 512 * s .geo .s) ∷ row 2 (¬ Fits s work) ∷ rows) (bothPlan s card work p)
 unfolding bothPlan
 two-images s card work p rows g =
-    open-row s (eq-row 1 (length card) (512 * s .geo .s) _ _ (λ e. test-row 2 (fits s work) p rows (λ f. g)))
+    open-row s (eq-row 1 (length card) (512 * s .geo .s) _ _ (λ e. means-row 2 (fits s work) p rows (fits-mean s work) (λ f. g)))
 
 pub of-land : (s : Session) (card work : List ℕ) (i : ℕ) → Exactly (land s card work i .answer .number) (landRows s card work i)
 unfolding land refused done numberOf

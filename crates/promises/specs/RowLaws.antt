@@ -2,7 +2,7 @@
 use mathlib.Core.Path.{_≡_, refl, sym, _∙_, subst}
 use mathlib.Core.Bool.{Bool, true, false, not, _&&_}
 use mathlib.Core.List.{List, [], _∷_}
-use mathlib.Core.Logic.{_⊎_, inl, inr, _≢_}
+use mathlib.Core.Logic.{_⊎_, inl, inr, _≢_, _↔_}
 use Prim.Native.Nat.{ℕ, _≤_, _<_}
 use native.Mathlib.Omega.{arith}
 use borrow.Author.Tests.{not-true, not-false, eqb-true, eqb-false, leb-true, leb-false, ltb-true, ltb-false}
@@ -78,9 +78,9 @@ exactly {rows} {p} {m} e g j = (λ q. subst (Gives rows) (sym e ∙ q) (g .gives
 pub clash : {b : Bool} {P : Type 0} → b ≡ true → b ≡ false → P
 clash {b} {P} p q = falsum (sym q ∙ p)
 
--- a test that fails is the row
-pub test-row : (k : ℕ) (b : Bool) (p : Plan) (rows : List Row) → (b ≡ true → Follows rows p) → Follows (row k (b ≡ false) ∷ rows) (guard k b p)
-test-row k b p rows g = guard-row k b p (b ≡ false) rows (λ e. e) (λ e q. clash e q) g
+-- a test that holds exactly when P does: the row is due when P does not
+pub means-row : (k : ℕ) (b : Bool) (p : Plan) {P : Type 0} (rows : List Row) → (b ≡ true) ↔ P → (b ≡ true → Follows rows p) → Follows (row k (¬ P) ∷ rows) (guard k b p)
+means-row k b p {P} rows m g = guard-row k b p (¬ P) rows (λ e x. clash (m .1 x) e) (λ e n. n (m .0 e)) g
 
 -- a test that must fail
 pub not-row : (k : ℕ) (b : Bool) (p : Plan) (rows : List Row) → (b ≡ false → Follows rows p) → Follows (row k (b ≡ true) ∷ rows) (guard k (not b) p)

@@ -1,6 +1,7 @@
 -- "Try these on the contracts: a store that always says 8 or 2, and one that always says 0": the table of numbers shuts them out, whatever the
 -- number and for every call. The other trial stores are in TrialsStore (stores nothing; counts made up; the order of sync's writes), TrialsSync
--- (later syncs that only say so) and TrialsTable (the table sector first, at a cut), on the history of TrialsCard and TrialsRun. Assumes nothing.
+-- (later syncs that only say so) and TrialsTable (the table sector first, at a cut), on the history of TrialsCard and TrialsRun; a wrong build is in
+-- TrialsBuild. Assumes nothing.
 use mathlib.Core.Path.{_≡_, refl, _∙_}
 use mathlib.Core.Bool.{true, false}
 use mathlib.Core.List.{List, [], _∷_}
@@ -14,18 +15,23 @@ use Rattle.words.specs.BoolLaws.{never}
 use Rattle.sectors.specs.Sectors.{sec}
 use Rattle.counts.specs.declared.Geo.{Geo}
 use Rattle.counts.specs.Geometry.{geoOk, geoOf}
-use Rattle.entries.specs.Entries.{goodName, sectorsFor}
+use Rattle.entries.specs.Entries.{sectorsFor}
 use Rattle.card.specs.declared.Line.{Line}
 use Rattle.card.specs.Make.{freshCard}
 use Rattle.card.specs.SoundLaws.{shape-inv}
+use Rattle.card.specs.Means.{GoodName}
+use Rattle.card.specs.MeansParts.{limits-mean}
 use Rattle.card.specs.FreshLaws.{fresh-shape}
 use Rattle.card.specs.FreshSectors.{fresh-length}
 use Rattle.session.specs.declared.Opened.{Opened}
 use Rattle.session.specs.declared.Session.{Session}
 use Rattle.session.specs.declared.Session.the-variants.{Closed, Open}
 use Rattle.session.specs.Fits.{sizesOk, fits}
+use Rattle.session.specs.FitMeans.{Fits}
+use Rattle.session.specs.FitMeansProved.{fits-mean}
 use Rattle.promises.specs.Numbers.{Row, Gives, Exactly, Misshapen, NoEntry, NoRoom, makeRows, mountRows, putRows, removeRows, getRows, listRows, freeRows, landRows, syncRows, unmountRows, readRows, readListRows, readGetRows}
 use Rattle.promises.specs.RowLaws.{clash}
+use Rattle.promises.specs.NumbersWhole.{outside}
 use Rattle.promises.specs.NumbersProved.{numbers}
 use Rattle.promises.specs.NoTwo.{other, lacks}
 use Rattle.promises.specs.TrialsCard.{ten, ten-ok, a, seven}
@@ -103,17 +109,17 @@ always-unmount k h = fixed 4 (λ s. unmountRows s [] []) Closed (Open blank) (re
 -- no bytes: too short to store S
 nothing : Misshapen []
 unfolding geoOk geoOf sec part wordAt
-nothing = inl refl
+nothing = inl (outside (geoOf (sec [])) refl)
 
 -- a fresh card has the right shape
 fresh-not : ¬ Misshapen (freshCard ten)
-fresh-not m = let (a, b) = shape-inv (freshCard ten) (fresh-shape ten ten-ok) in ⊎-elim (λ e. clash a e) (λ o. o b) m
+fresh-not m = let (a, b) = shape-inv (freshCard ten) (fresh-shape ten ten-ok) in ⊎-elim (λ e. e (limits-mean (geoOf (sec (freshCard ten))) .0 a)) (λ o. o b) m
 
 -- a make that always says k
 pub always-make : (k : ℕ) → ¬ ((g : Geo) (card : List ℕ) → Exactly k (makeRows g card))
 always-make k h =
     fixed 1 (makeRows ten) [] (freshCard ten) (inr (λ e. absurd (omega arith)), refl)
-    (λ m. ⊎-elim (λ e. clash ten-ok e) (λ o. o (fresh-length ten ten-ok)) m, refl) k (h ten)
+    (λ m. ⊎-elim (λ e. e (limits-mean ten .0 ten-ok)) (λ o. o (fresh-length ten ten-ok)) m, refl) k (h ten)
 
 -- a mount that always says k
 pub always-mount : (k : ℕ) → ¬ ((card work : List ℕ) → Exactly k (mountRows card work))
@@ -133,10 +139,10 @@ always-read-get k h = fixed 1 (λ x. readGetRows x [] []) [] (freshCard ten) (no
 -- ---- a store that refuses where it could: only 0 is right there
 
 -- put in a session that fits and is not worn, of a good name, where there is an entry and room: not 8, not 2, nothing but 0
-pub put-where-room : (o : Opened) (work n d : List ℕ) → fits o work ≡ true → o .worn ≡ false → goodName n ≡ true
+pub put-where-room : (o : Opened) (work n d : List ℕ) → Fits o work → o .worn ≡ false → GoodName n
     → ¬ NoEntry o work n → ¬ NoRoom o work (sectorsFor (length d)) → (k : ℕ) → Exactly k (putRows (Open o) work n d) → k ≡ 0
 put-where-room o work n d f w g e r k h =
-    h 0 .1 (inr (λ c. never cc, inr (λ x. clash f x, inr (λ x. clash x w, inr (λ x. clash g x, inr (e, inr (r, refl)))))))
+    h 0 .1 (inr (λ c. never cc, inr (λ x. x f, inr (λ x. clash x w, inr (λ x. x g, inr (e, inr (r, refl)))))))
 
 -- a put whose every answer is a refusal, 8 or 2 or any other, by turns or always: `a` with one byte, on a fresh card, is due 0
 pub never-done : (f : Session → List ℕ → List ℕ → List ℕ → ℕ) → ((s : Session) (work n d : List ℕ) → f s work n d ≢ 0)
@@ -156,5 +162,5 @@ blank-unfit = refl
 pub always-done : (f : Session → List ℕ → List ℕ → List ℕ → ℕ) → ((o : Opened) (work n d : List ℕ) → f (Open o) work n d ≡ 0)
     → ¬ ((s : Session) (work n d : List ℕ) → Exactly (f s work n d) (putRows s work n d))
 always-done f z h =
-    let two = h (Open blank) [] [] [] 2 .1 (inr (open-not, inl (blank-unfit, refl))) in
+    let two = h (Open blank) [] [] [] 2 .1 (inr (open-not, inl (λ F. clash (fits-mean blank [] .1 F) blank-unfit, refl))) in
     absurd (omega (arith, two, z blank [] [] []))

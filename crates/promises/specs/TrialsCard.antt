@@ -77,7 +77,7 @@ unfoldable pub workB : List ℕ
 workB = putWork (stretch 2) 1 7 workS b seven
 
 -- one name that opens what these compute with
-unfoldable computes : ℕ
+unfoldable pub computes : ℕ
 unfolding start workA cardS workS workB shownIn items lineName lookup inRun every pairwise firstAt eqList part over splice setPart pad wordAt words wordBytes sec setSec applySteps copySteps gN gF geoOk countOf geoOf tableFrom tableOf stampOf alive showing stampOk deadBelow tableOk tableIn asIs sameStamp standing becomesOld versionOf versionBytes newOf oldOf nameBytes entryOf entryBytes shownBytes shown goodName nameOf nameOk sectorsFor runOk versionOk entryOk changed sectorEntries entriesFrom entriesOf spotsFrom spotOf setEntry gone apart named bitAt putDigit putBit setRun bitsN bitsOf clearIn clearBits merge allClear findRun lowestRun runFor outside wanted bitsOk bytesToS pageOk freshPage indexOf indexBytes indexIn pairOk indexOk shownPage pageIn changedIndex pageBefore changedPages changeBits guard need ended refused done consFile filesOf cover contentOf runOf runAt viewOk soundIn shapeOk sound blockBytes freshIndex freshCard filesIn filesShown pageShown ownStamp presentView presentTable cutTable presentPage cutPage presentFiles sessionFiles sizesOk headOk wordOk stampAtMost entryAtMost fitsIn fits setCount setWord tableSector mountSteps syncSteps atTop syncWork mountPlan openedFrom orElse putPlace placeIn runIn putPlan putContent editWork putRun putWork bothPlan grown
 computes = 0
 

@@ -1,0 +1,189 @@
+-- The limits, names and "A card is sound when all of this holds", clause by clause in the paper's order: no test, only words, entries and sectors.
+-- A byte or word past the end of what it is read from counts as 0. Assumes nothing.
+use mathlib.Core.Path.{_≡_}
+use mathlib.Core.List.{List, []}
+use mathlib.Core.Logic.{_⊎_, _≢_, _↔_}
+use Prim.Native.Nat.{ℕ, _+_, _*_, _≤_, _<_}
+use lib.ListN.{length, getD}
+use Rattle.words.specs.Bytes.{wordAt}
+use Rattle.sectors.specs.Sectors.{sec}
+use Rattle.counts.specs.declared.Geo.{Geo}
+use Rattle.counts.specs.declared.Stamp.{Stamp}
+use Rattle.counts.specs.Geometry.{gN, gF, geoOf, countOf, tableOf}
+use Rattle.counts.specs.Stamps.{stampOf}
+use Rattle.entries.specs.declared.Run.{Run}
+use Rattle.entries.specs.declared.Version.the-variants.{Absent, Present}
+use Rattle.entries.specs.Entries.{nameBytes, nameOf, shownBytes, shown}
+use Rattle.directory.specs.Directory.{entriesOf}
+use Rattle.apages.specs.Bits.{bitAt}
+use Rattle.apages.specs.Index.{indexIn, pageIn}
+use Rattle.card.specs.Files.{runOf}
+
+-- "S at most 4,096; T table sectors, 1 to 512; .. D directory sectors, 1 to 64; F = T + 4 + D; S must be at least F + 1"
+pub record InLimits (g : Geo) : Type 0 where
+  pub sMost : g .s ≤ 4096
+  pub tLeast : 1 ≤ g .t
+  pub tMost : g .t ≤ 512
+  pub dLeast : 1 ≤ g .d
+  pub dMost : g .d ≤ 64
+  pub sLeast : gF g + 1 ≤ g .s
+
+-- "each 33 to 126"
+abbrev pub GoodBytes : List ℕ → Type 0
+GoodBytes n = (i : ℕ) → i < length n → (33 ≤ getD n i 0) × (getD n i 0 ≤ 126)
+
+-- "Names have 1 to 32 bytes, each 33 to 126"
+pub record GoodName (n : List ℕ) : Type 0 where
+  pub least : 1 ≤ length n
+  pub most : length n ≤ 32
+  pub bytes : GoodBytes n
+
+-- ---- parts of a card
+
+-- every entry, by its index
+abbrev pub Each : Geo → List ℕ → (List ℕ → Type 0) → Type 0
+Each g img P = (i : ℕ) → i < length (entriesOf g (sec img)) → P (getD (entriesOf g (sec img)) i [])
+
+-- every stamp: the index has one, and so has every entry
+abbrev pub EachStamp : Geo → List ℕ → (Stamp → Type 0) → Type 0
+EachStamp g img P = P (stampOf (indexIn g (sec img))) × Each g img (λ p. P (stampOf p))
+
+-- all bytes from `from` on are 0
+abbrev pub ZerosFrom : ℕ → List ℕ → Type 0
+ZerosFrom from s = (i : ℕ) → from ≤ i → getD s i 0 ≡ 0
+
+-- "A stamp (cc, txc) is alive when txc is at most table word cc, otherwise dead."
+abbrev pub Alive : List ℕ → Stamp → Type 0
+Alive tab x = x .txc .0 ≤ getD tab (x .cc .0) 0
+
+-- "every cc is below N, every txc at most 2,147,483,647"
+abbrev pub Ranged : Geo → Stamp → Type 0
+Ranged g x = (x .cc .0 < gN g) × (x .txc .0 ≤ 2147483647)
+
+-- "a dead stamp has cc below C"
+abbrev pub DeadBelow : ℕ → List ℕ → Stamp → Type 0
+DeadBelow C tab x = ¬ Alive tab x → x .cc .0 < C
+
+-- ---- an entry
+
+-- the words of a version: "state (0 absent, 1 present), start, sectors, bytes". "Sectors = bytes/512 rounded up; a file of 0 bytes has
+-- start 0 and sectors 0"
+pub record Stored (v : List ℕ) : Type 0 where
+  pub state : wordAt v 0 ≡ 1
+  pub enough : wordAt v 12 ≤ 512 * wordAt v 8
+  pub noMore : 512 * wordAt v 8 < wordAt v 12 + 512
+  pub empty : wordAt v 12 ≡ 0 → (wordAt v 4 ≡ 0) × (wordAt v 8 ≡ 0)
+
+-- "an absent version is four zeros"
+abbrev pub FourZeros : List ℕ → Type 0
+FourZeros v = (wordAt v 0 ≡ 0) × (wordAt v 4 ≡ 0) × (wordAt v 8 ≡ 0) × (wordAt v 12 ≡ 0)
+
+abbrev pub WellFormed : List ℕ → Type 0
+WellFormed v = FourZeros v ⊎ Stored v
+
+-- the name in an entry, its length the third word: 1 to 32 bytes, each 33 to 126; "unused name bytes are 0"
+pub record Named (p : List ℕ) : Type 0 where
+  pub least : 1 ≤ wordAt p 8
+  pub most : wordAt p 8 ≤ 32
+  pub bytes : GoodBytes (nameOf p)
+  pub unused : ZerosFrom (wordAt p 8) (nameBytes p)
+
+-- an entry shows a file: its shown version is not absent
+abbrev pub ShowsFile : List ℕ → List ℕ → Type 0
+ShowsFile tab p = shown tab p ≢ Absent
+
+-- a file that an entry shows "lies inside the data"
+abbrev pub Inside : Geo → List ℕ → List ℕ → Type 0
+Inside g tab p = (r : Run) → shown tab p ≡ Present r → 1 ≤ r .sectors → (gF g ≤ r .start .0) × (r .start .0 + r .sectors ≤ g .s)
+
+-- the file that an entry shows holds sector n; an absent one holds none
+abbrev pub Holds : List ℕ → List ℕ → ℕ → Type 0
+Holds tab p n = (runOf (shown tab p) .start .0 ≤ n) × (n < runOf (shown tab p) .start .0 + runOf (shown tab p) .sectors)
+
+-- some entry's file holds it
+abbrev pub Held : Geo → List ℕ → List ℕ → ℕ → Type 0
+Held g tab img n = (i : ℕ) × (i < length (entriesOf g (sec img))) × Holds tab (getD (entriesOf g (sec img)) i []) n
+
+-- no two entries that are `Here` have one name
+abbrev pub NoTwoAlike : Geo → List ℕ → (List ℕ → Type 0) → Type 0
+NoTwoAlike g img Here =
+    (i j : ℕ) → i < length (entriesOf g (sec img)) → j < length (entriesOf g (sec img))
+    → Here (getD (entriesOf g (sec img)) i []) → Here (getD (entriesOf g (sec img)) j [])
+    → nameOf (getD (entriesOf g (sec img)) i []) ≡ nameOf (getD (entriesOf g (sec img)) j []) → i ≡ j
+
+-- ---- the index and the apages
+
+-- "A and B are T+2 and T+3, in either order"
+abbrev pub AandB : Geo → List ℕ → Type 0
+AandB g ix = ((wordAt ix 8 ≡ g .t + 2) × (wordAt ix 12 ≡ g .t + 3)) ⊎ ((wordAt ix 8 ≡ g .t + 3) × (wordAt ix 12 ≡ g .t + 2))
+
+-- "the shown apage has set exactly the bits below F, from S up, and of the sectors of shown files"
+abbrev pub Bits : Geo → List ℕ → List ℕ → Type 0
+Bits g tab img = (n : ℕ) → n < 4096 → (bitAt (pageIn g tab (sec img)) n ≡ 1) ↔ ((n < gF g) ⊎ ((g .s ≤ n) ⊎ Held g tab img n))
+
+-- "each in one file"
+abbrev pub OneFile : Geo → List ℕ → List ℕ → Type 0
+OneFile g tab img =
+    (n i j : ℕ) → i < length (entriesOf g (sec img)) → j < length (entriesOf g (sec img))
+    → Holds tab (getD (entriesOf g (sec img)) i []) n → Holds tab (getD (entriesOf g (sec img)) j []) n → i ≡ j
+
+-- what lies past S in the shown apage is made of bytes: true of every image that is lent
+abbrev pub Bytes : Geo → List ℕ → List ℕ → Type 0
+Bytes g tab img = (j : ℕ) → g .s ≤ 8 * j → getD (pageIn g tab (sec img)) j 0 < 256
+
+-- ---- the entry, index and bitmap rules, in the view that takes the table as `tab`
+
+pub record View (g : Geo) (tab img : List ℕ) : Type 0 where
+  pub stamps : EachStamp g img (Ranged g)
+  pub pair : AandB g (indexIn g (sec img))
+  pub formed : Each g img (λ p. WellFormed (shownBytes tab p))
+  pub names : Each g img (λ p. ShowsFile tab p → Named p)
+  pub inside : Each g img (Inside g tab)
+  pub bits : Bits g tab img
+  pub oneFile : OneFile g tab img
+  pub bytes : Bytes g tab img
+  pub indexRest : ZerosFrom 16 (indexIn g (sec img))
+  pub entryRest : Each g img (ZerosFrom 76)
+
+-- ---- "A card is sound when all of this holds", of an image of the right shape
+
+-- table word i, in the geometry that the image stores; N; C
+abbrev pub word : List ℕ → ℕ → ℕ
+word img i = getD (tableOf (geoOf (sec img)) (sec img)) i 0
+
+abbrev pub N : List ℕ → ℕ
+N img = gN (geoOf (sec img))
+
+abbrev pub C : List ℕ → ℕ
+C img = countOf (sec img)
+
+abbrev pub G : List ℕ → Geo
+G img = geoOf (sec img)
+
+abbrev pub tab : List ℕ → List ℕ
+tab img = tableOf (geoOf (sec img)) (sec img)
+
+pub record Sound (img : List ℕ) : Type 0 where
+  -- "C is at most N; every table word is at most 2,147,483,647; words past C are 0; word C, if C < N, is at most 2,147,483,646"
+  pub count : C img ≤ N img
+  pub words : (i : ℕ) → i < N img → word img i ≤ 2147483647
+  pub past : (i : ℕ) → C img < i → i < N img → word img i ≡ 0
+  pub wordC : C img < N img → word img (C img) ≤ 2147483646
+  -- "every cc is below N, every txc at most 2,147,483,647, and a dead stamp has cc below C"
+  pub stamps : EachStamp (G img) img (Ranged (G img))
+  pub dead : EachStamp (G img) img (DeadBelow (C img) (tab img))
+  -- "A and B are T+2 and T+3, in either order"
+  pub pair : AandB (G img) (indexIn (G img) (sec img))
+  -- "every shown version is well formed, shown present files have good names, no two alike, and lie inside the data"
+  pub formed : Each (G img) img (λ p. WellFormed (shownBytes (tab img) p))
+  pub names : Each (G img) img (λ p. ShowsFile (tab img) p → Named p)
+  pub alone : NoTwoAlike (G img) img (ShowsFile (tab img))
+  pub inside : Each (G img) img (Inside (G img) (tab img))
+  -- "the shown apage has set exactly the bits below F, from S up, and of the sectors of shown files, each in one file"
+  pub bits : Bits (G img) (tab img) img
+  pub oneFile : OneFile (G img) (tab img) img
+  pub bytes : Bytes (G img) (tab img) img
+  -- "The words named above as zero are [judged]": the rest of sector 0, of the index and of each entry
+  pub headRest : ZerosFrom 16 (sec img 0)
+  pub indexRest : ZerosFrom 16 (indexIn (G img) (sec img))
+  pub entryRest : Each (G img) img (ZerosFrom 76)

@@ -1,0 +1,94 @@
+-- `fits` holds exactly when every clause of "A session fits a working image" does. Assumes nothing.
+use mathlib.Core.Path.{_≡_, refl, sym}
+use mathlib.Core.Bool.{Bool, true, false}
+use mathlib.Core.List.{List, []}
+use mathlib.Core.Logic.{_↔_}
+use Prim.Native.Nat.{ℕ, _+_, _*_}
+use borrow.Author.Tests.{eqb-true, eq-eqb}
+use lib.Dec.{eqb}
+use lib.ListN.{length, getD}
+use Rattle.words.specs.BoolLaws.{both, join, falsum}
+use Rattle.words.specs.EveryLaws.{every-at, every-all}
+use Rattle.sectors.specs.Sectors.{sec}
+use Rattle.counts.specs.Geometry.{gN, geoOk, tableOf}
+use Rattle.counts.specs.Stamps.{maxTx, stampOf}
+use Rattle.directory.specs.Directory.{entriesOf}
+use Rattle.apages.specs.Index.{indexIn}
+use Rattle.card.specs.MeansParts.{limits-mean, zeros-mean, words-mean, past-means}
+use Rattle.card.specs.MeansProved.{view-says, says-view, alone-means}
+use Rattle.session.specs.declared.Opened.{Opened}
+use Rattle.session.specs.Views.{presentTable, cutTable}
+use Rattle.session.specs.Fits.{wordOk, entryAtMost, fits}
+use Rattle.session.specs.FitLaws.{Fit, fit-inv, fit-intro, Head, head-inv, head-intro, at-most, at-most-intro, fit-table}
+use Rattle.session.specs.FitMeans.{Fits}
+
+word-says : (b : Bool) (t x : ℕ) → wordOk b t x ≡ true → (b ≡ false → x + 1 ≡ t) × (b ≡ true → (t ≡ maxTx) × (x ≡ maxTx))
+unfolding wordOk
+word-says true t x h = let (u, v) = both (eqb t maxTx) (eqb x maxTx) h in (λ e. falsum (sym e), λ e. (eqb-true _ _ u, eqb-true _ _ v))
+word-says false t x h = (λ e. eqb-true _ _ h, λ e. falsum e)
+
+says-word : (b : Bool) (t x : ℕ) → (b ≡ false → x + 1 ≡ t) → (b ≡ true → (t ≡ maxTx) × (x ≡ maxTx)) → wordOk b t x ≡ true
+unfolding wordOk
+says-word true t x f g = let (u, v) = g refl in join _ _ (eq-eqb _ _ u) (eq-eqb _ _ v)
+says-word false t x f g = eq-eqb _ _ (f refl)
+
+module _ (s : Opened) (work : List ℕ) where
+  fits-says : fits s work ≡ true → Fits s work
+  unfolding cutTable entryAtMost
+  fits-says h =
+      let F = fit-inv s work h in
+      let H = head-inv s (sec work) (F .head) in
+      let n = fit-table (s .geo) work (F .shape) (F .sized) in
+      let (P, D) = view-says (s .geo) (s .c .0) (presentTable s (sec work)) work (F .shape) (F .sized) (F .presView) in
+      let w = word-says (s .worn) (s .t .0) (getD (tableOf (s .geo) (sec work)) (s .c .0) 0) (F .word) in
+      record {
+        limits = limits-mean (s .geo) .0 (F .shape);
+        c = F .count;
+        tLeast = F .low;
+        tMost = F .tx;
+        sized = F .sized;
+        count = H .count;
+        geo = H .geo;
+        headRest = zeros-mean 16 (sec work 0) .0 (H .tail);
+        wordC = w .0;
+        wornC = w .1;
+        words = words-mean (gN (s .geo)) (tableOf (s .geo) (sec work)) n .0 (F .max);
+        past = past-means (gN (s .geo)) (tableOf (s .geo) (sec work)) n (s .c .0) .0 (F .past);
+        present = P;
+        cut = view-says (s .geo) (gN (s .geo)) (tableOf (s .geo) (sec work)) work (F .shape) (F .sized) (F .cutView) .0;
+        alone = alone-means (presentTable s (sec work)) (tableOf (s .geo) (sec work)) (s .geo) work .0 (F .alone);
+        dead = D;
+        atC = (
+          at-most s (stampOf (indexIn (s .geo) (sec work))) (F .stamp),
+          λ i l. at-most s (stampOf (getD (entriesOf (s .geo) (sec work)) i [])) (every-at (entryAtMost s) (entriesOf (s .geo) (sec work)) i [] l (F .stamps)),
+        );
+      }
+
+  says-fits : Fits s work → fits s work ≡ true
+  unfolding cutTable entryAtMost
+  says-fits F =
+      let ok = limits-mean (s .geo) .1 (F .limits) in
+      let n = fit-table (s .geo) work ok (F .sized) in
+      fit-intro s work
+      (record {
+        shape = ok;
+        count = F .c;
+        low = F .tLeast;
+        tx = F .tMost;
+        sized = F .sized;
+        head = head-intro s (sec work) (record { count = F .count; geo = F .geo; tail = zeros-mean 16 (sec work 0) .1 (F .headRest) });
+        word = says-word (s .worn) (s .t .0) (getD (tableOf (s .geo) (sec work)) (s .c .0) 0) (F .wordC) (F .wornC);
+        max = words-mean (gN (s .geo)) (tableOf (s .geo) (sec work)) n .1 (F .words);
+        past = past-means (gN (s .geo)) (tableOf (s .geo) (sec work)) n (s .c .0) .1 (F .past);
+        presView = says-view (s .geo) (s .c .0) (presentTable s (sec work)) work ok (F .sized) (F .present) (F .dead);
+        -- every stamp has cc below N
+        cutView = says-view (s .geo) (gN (s .geo)) (tableOf (s .geo) (sec work)) work ok (F .sized) (F .cut)
+            (λ o. F .cut .stamps .0 .0, λ i l o. F .cut .stamps .1 i l .0);
+        alone = alone-means (presentTable s (sec work)) (tableOf (s .geo) (sec work)) (s .geo) work .1 (F .alone);
+        stamps = every-all (entryAtMost s) (entriesOf (s .geo) (sec work)) [] (λ i l. at-most-intro s (stampOf (getD (entriesOf (s .geo) (sec work)) i [])) (F .atC .1 i l));
+        stamp = at-most-intro s (stampOf (indexIn (s .geo) (sec work))) (F .atC .0);
+      })
+
+  -- a session fits exactly when all of this holds
+  pub fits-mean : (fits s work ≡ true) ↔ Fits s work
+  fits-mean = (fits-says, says-fits)

@@ -1,0 +1,2 @@
+pub mod Tight
+pub mod TightLists

@@ -1,0 +1,129 @@
+-- Demand 1, "for all inputs; a proof shows that two results meeting it are equal": stated of the contracts that the functions are proved to meet.
+-- `F.Pre` and `F.Post` are the kit's reading of function F's own `requires` and `ensures`: a contract that is cut down or asks for something is
+-- refused here. The calls over a lent table of lines, whose proofs are walks by hand, are in TightLists. Assumes nothing.
+use mathlib.Core.Path.{_≡_, refl, sym, _∙_}
+use mathlib.Core.List.{List, [], _∷_}
+use Prim.Native.Nat.{ℕ}
+use contract.Lifetimes.{Lfts}
+use denote.Ref.{now}
+use denote.Triple.Clauses.{AtExit}
+use borrow.Fn.Kinds.{PK, RK, In, Out, Dens, resT, endedOf}
+use Rattle.card.specs.declared.Answer.{Answer}
+use Rattle.session.specs.declared.Session.{Session}
+use Rattle.store.specs.declared.Outcome.{Outcome}
+use Rattle.fresh.proofs.make.Kinds as make·is
+use Rattle.fresh.proofs.make.Reads as make
+use Rattle.cards.proofs.mount.Kinds as mount·is
+use Rattle.cards.proofs.mount.Reads as mount
+use Rattle.edits.proofs.put.Kinds as put·is
+use Rattle.edits.proofs.put.Reads as put
+use Rattle.edits.proofs.remove.Kinds as remove·is
+use Rattle.edits.proofs.remove.Reads as remove
+use Rattle.looks.proofs.get.Kinds as get·is
+use Rattle.looks.proofs.get.Reads as get
+use Rattle.looks.proofs.free.Kinds as free·is
+use Rattle.looks.proofs.free.Reads as free
+use Rattle.looks.proofs.line.Kinds as line·is
+use Rattle.looks.proofs.line.Reads as line
+use Rattle.cards.proofs.land.Kinds as land·is
+use Rattle.cards.proofs.land.Reads as land
+use Rattle.cards.proofs.sync.Kinds as sync·is
+use Rattle.cards.proofs.sync.Reads as sync
+use Rattle.cards.proofs.unmount.Kinds as unmount·is
+use Rattle.cards.proofs.unmount.Reads as unmount
+use Rattle.reading.proofs.read.Kinds as read·is
+use Rattle.reading.proofs.read.Reads as read
+use Rattle.reading.proofs.read_line.Kinds as read_line·is
+use Rattle.reading.proofs.read_line.Reads as read_line
+use Rattle.reading.proofs.read_get.Kinds as read_get·is
+use Rattle.reading.proofs.read_get.Reads as read_get
+use Rattle.host.proofs.store_make.Kinds as store_make·is
+use Rattle.host.proofs.store_make.Reads as store_make
+use Rattle.host.proofs.store_read.Kinds as store_read·is
+use Rattle.host.proofs.store_read.Reads as store_read
+use Rattle.host.proofs.store_mount.Kinds as store_mount·is
+use Rattle.host.proofs.store_mount.Reads as store_mount
+use Rattle.host.proofs.store_put.Kinds as store_put·is
+use Rattle.host.proofs.store_put.Reads as store_put
+use Rattle.host.proofs.store_sync.Kinds as store_sync·is
+use Rattle.host.proofs.store_sync.Reads as store_sync
+use Rattle.host.proofs.store_land.Kinds as store_land·is
+use Rattle.host.proofs.store_land.Reads as store_land
+
+-- a contract of n lifetimes, parameters ps and result r asks nothing of its caller, and determines the result and what is `seen` at the end: the
+-- contents of every buffer that is lent to be written
+module _ (n : ℕ) (ps : List (PK n)) (r : RK n) (Pre : In n ps) (Post : Out n ps r) where
+  abbrev pub Tight : ((κs : Lfts n) → AtExit (endedOf n ps r) κs → List (List ℕ)) → Type 0
+  Tight seen =
+      (κs : Lfts n) (a : Dens κs ps) → Pre κs a
+      × ((x y : resT r κs .Denot) (s t : AtExit (endedOf n ps r) κs) → Post κs a x s → Post κs a y t → (x ≡ y) × (seen κs s ≡ seen κs t))
+
+-- `s .0` is the first parameter at the end, `s .1 .0` the second, and so on
+pub record Contracts : Type 0 where
+  pub ofMake : Tight 1 make·is.ps make·is.r make.Pre make.Post (λ κs s. now (s .1 .0) ∷ [])
+  pub ofMount : Tight 2 mount·is.ps mount·is.r mount.Pre mount.Post (λ κs s. now (s .0) ∷ now (s .1 .0) ∷ [])
+  pub ofPut : Tight 3 put·is.ps put·is.r put.Pre put.Post (λ κs s. now (s .1 .0) ∷ [])
+  pub ofRemove : Tight 2 remove·is.ps remove·is.r remove.Pre remove.Post (λ κs s. now (s .1 .0) ∷ [])
+  pub ofGet : Tight 3 get·is.ps get·is.r get.Pre get.Post (λ κs s. now (s .1 .1 .1 .0) ∷ [])
+  pub ofFree : Tight 1 free·is.ps free·is.r free.Pre free.Post (λ κs s. [])
+  pub ofLine : Tight 1 line·is.ps line·is.r line.Pre line.Post (λ κs s. [])
+  pub ofLand : Tight 2 land·is.ps land·is.r land.Pre land.Post (λ κs s. now (s .1 .0) ∷ [])
+  pub ofSync : Tight 2 sync·is.ps sync·is.r sync.Pre sync.Post (λ κs s. now (s .1 .0) ∷ now (s .1 .1 .0) ∷ [])
+  pub ofUnmount : Tight 2 unmount·is.ps unmount·is.r unmount.Pre unmount.Post (λ κs s. now (s .1 .0) ∷ now (s .1 .1 .0) ∷ [])
+  pub ofRead : Tight 1 read·is.ps read·is.r read.Pre read.Post (λ κs s. [])
+  pub ofReadLine : Tight 1 read_line·is.ps read_line·is.r read_line.Pre read_line.Post (λ κs s. [])
+  pub ofReadGet : Tight 3 read_get·is.ps read_get·is.r read_get.Pre read_get.Post (λ κs s. now (s .1 .1 .0) ∷ [])
+  pub ofStoreMake : Tight 1 store_make·is.ps store_make·is.r store_make.Pre store_make.Post (λ κs s. now (s .1 .1 .1 .0) ∷ [])
+  pub ofStoreRead : Tight 2 store_read·is.ps store_read·is.r store_read.Pre store_read.Post (λ κs s. now (s .1 .0) ∷ [])
+  pub ofStoreMount : Tight 3 store_mount·is.ps store_mount·is.r store_mount.Pre store_mount.Post (λ κs s. now (s .1 .1 .0) ∷ now (s .0) ∷ now (s .1 .0) ∷ [])
+  pub ofStorePut : Tight 4 store_put·is.ps store_put·is.r store_put.Pre store_put.Post (λ κs s. now (s .1 .0) ∷ [])
+  pub ofStoreSync : Tight 3 store_sync·is.ps store_sync·is.r store_sync.Pre store_sync.Post (λ κs s. now (s .0) ∷ now (s .1 .0) ∷ now (s .1 .1 .0) ∷ [])
+  pub ofStoreLand : Tight 3 store_land·is.ps store_land·is.r store_land.Pre store_land.Post (λ κs s. now (s .1 .0) ∷ [])
+
+-- ---- the proof: a clause is one to four equations, each with what the definition gives on its right
+
+one : {A : Type 0} {x y d : A} → x ≡ d → y ≡ d → (x ≡ y) × (_≡_ {A = List (List ℕ)} [] [])
+one p q = (p ∙ sym q, refl)
+
+two : {A : Type 0} {x y d : A} {s t b : List ℕ} → (x ≡ d) × (s ≡ b) → (y ≡ d) × (t ≡ b) → (x ≡ y) × ((s ∷ []) ≡ (t ∷ []))
+two p q = (p .0 ∙ sym (q .0), λ i. (p .1 ∙ sym (q .1)) i ∷ [])
+
+-- answer, session and both images
+four : {x y : Outcome} {d : Answer} {e : Session} {s t b s′ t′ b′ : List ℕ} → (x .answer ≡ d) × ((x .session ≡ e) × ((s ≡ b) × (s′ ≡ b′)))
+    → (y .answer ≡ d) × ((y .session ≡ e) × ((t ≡ b) × (t′ ≡ b′))) → (x ≡ y) × ((s ∷ s′ ∷ []) ≡ (t ∷ t′ ∷ []))
+four p q = (
+  λ i. record { answer = (p .0 ∙ sym (q .0)) i; session = (p .1 .0 ∙ sym (q .1 .0)) i },
+  λ i. (p .1 .1 .0 ∙ sym (q .1 .1 .0)) i ∷ (p .1 .1 .1 ∙ sym (q .1 .1 .1)) i ∷ [],
+)
+
+-- number, the session's bytes and both images
+five : {A : Type 0} {x y d : A} {s t b s′ t′ b′ s″ t″ b″ : List ℕ} → (x ≡ d) × ((s ≡ b) × ((s′ ≡ b′) × (s″ ≡ b″)))
+    → (y ≡ d) × ((t ≡ b) × ((t′ ≡ b′) × (t″ ≡ b″))) → (x ≡ y) × ((s ∷ s′ ∷ s″ ∷ []) ≡ (t ∷ t′ ∷ t″ ∷ []))
+five p q = (
+  p .0 ∙ sym (q .0),
+  λ i. (p .1 .0 ∙ sym (q .1 .0)) i ∷ (p .1 .1 .0 ∙ sym (q .1 .1 .0)) i ∷ (p .1 .1 .1 ∙ sym (q .1 .1 .1)) i ∷ [],
+)
+
+pub contracts : Contracts
+contracts =
+    record {
+      ofMake = λ κs a. (tt, λ x y s t p q. two p q);
+      ofMount = λ κs a. (tt, λ x y s t p q. four p q);
+      ofPut = λ κs a. (tt, λ x y s t p q. two p q);
+      ofRemove = λ κs a. (tt, λ x y s t p q. two p q);
+      ofGet = λ κs a. (tt, λ x y s t p q. two p q);
+      ofFree = λ κs a. (tt, λ x y s t p q. one p q);
+      ofLine = λ κs a. (tt, λ x y s t p q. one p q);
+      ofLand = λ κs a. (tt, λ x y s t p q. two p q);
+      ofSync = λ κs a. (tt, λ x y s t p q. four p q);
+      ofUnmount = λ κs a. (tt, λ x y s t p q. four p q);
+      ofRead = λ κs a. (tt, λ x y s t p q. one p q);
+      ofReadLine = λ κs a. (tt, λ x y s t p q. one p q);
+      ofReadGet = λ κs a. (tt, λ x y s t p q. two p q);
+      ofStoreMake = λ κs a. (tt, λ x y s t p q. two p q);
+      ofStoreRead = λ κs a. (tt, λ x y s t p q. two p q);
+      ofStoreMount = λ κs a. (tt, λ x y s t p q. five p q);
+      ofStorePut = λ κs a. (tt, λ x y s t p q. two p q);
+      ofStoreSync = λ κs a. (tt, λ x y s t p q. five p q);
+      ofStoreLand = λ κs a. (tt, λ x y s t p q. two p q);
+    }

@@ -1,0 +1,1 @@
+// Uniqueness of what the public functions are proved to do. No function.
