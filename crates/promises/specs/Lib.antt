@@ -28,6 +28,10 @@ pub mod Untouched
 pub mod FitMount
 pub mod FitHistory
 pub mod Steady
+pub mod Leaves
+pub mod LeavesSync
+pub mod LeavesUnmount
+pub mod LeavesProved
 pub mod NoTwo
 pub mod Items
 pub mod Base

@@ -110,7 +110,7 @@ unmount-shows w r h = card-possible (after unmountC w) (call r unmountC) .1 .sho
     last-is = unfold after stepped in ap (λ (v : World). v .last) (by-zero (unmount (w .session) (w .card) (w .work) .answer .number) _ w h)
 
 -- a plan that comes to 0 goes through
-through : {A : Type 0} (num : A → ℕ) (P : A → Type 0) (f : ℕ → A) (h : ℕ → ℕ → A) → ((k : ℕ) → num (f k) ≡ k) → {p : Plan} → Num p → ((j a : ℕ) → p ≡ doIt j a → P (h j a))
+pub through : {A : Type 0} (num : A → ℕ) (P : A → Type 0) (f : ℕ → A) (h : ℕ → ℕ → A) → ((k : ℕ) → num (f k) ≡ k) → {p : Plan} → Num p → ((j a : ℕ) → p ≡ doIt j a → P (h j a))
     → num (ended p f h) ≡ 0 → P (ended p f h)
 through num P f h e p q = passing (λ r. num r ≡ 0 → P r) f h p (λ k z. absurd (omega (arith, e (suc k)))) (λ j a d z. q j a d)
 
