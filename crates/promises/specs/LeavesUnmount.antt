@@ -42,7 +42,7 @@ module _ (s : Opened) (card work : List ℕ) (l : length card ≡ 512 * s .geo .
 
   count-small : s .c .0 < 2 ^ 32
   unfolding gN
-  count-small = omega (arith, F .count, (L s card work l F) .tHigh)
+  count-small = omega (arith, F .count, L s card work l F .tHigh)
 
   abbrev back : List ℕ
   back = setCount (s .c .0) now
@@ -51,7 +51,7 @@ module _ (s : Opened) (card work : List ℕ) (l : length card ≡ 512 * s .geo .
   back-sized = count-length (s .c .0) (g .s) now count-small (now-sized s card work l F) (pos s card work l F)
 
   back-head : sec back 0 ≡ withCount (s .c .0) (sec work 0)
-  back-head = count-here (s .c .0) (g .s) now count-small (now-sized s card work l F) (pos s card work l F) ∙ ap (withCount (s .c .0)) ((now-there s card work l F) 0 (omega (arith, (room s card work l F) .0)))
+  back-head = count-here (s .c .0) (g .s) now count-small (now-sized s card work l F) (pos s card work l F) ∙ ap (withCount (s .c .0)) (now-there s card work l F 0 (omega (arith, room s card work l F .0)))
 
   back-there : (i : ℕ) → i ≢ 0 → sec back i ≡ sec now i
   back-there = count-other (s .c .0) (g .s) now count-small (now-sized s card work l F) (pos s card work l F)
@@ -68,11 +68,11 @@ module _ (s : Opened) (card work : List ℕ) (l : length card ≡ 512 * s .geo .
         workSize = back-sized ∙ sym (F .sized);
         cardHead = set-here (g .s) k (sec back 0) 0 w (pos s card work l F) wd ∙ back-head;
         copied = λ i h. there i (omega arith) ∙ B .copied i h;
-        cardTable = there ts (omega (arith, (room s card work l F) .0)) ∙ B .cardTable;
+        cardTable = there ts (omega (arith, room s card work l F .0)) ∙ B .cardTable;
         cardOthers = λ i lo hi o. there i (omega arith) ∙ B .cardOthers i lo hi o;
         workHead = back-head;
-        workTable = back-there ts (omega (arith, (room s card work l F) .0)) ∙ (now-here s card work l F);
-        workOthers = λ i z o. back-there i z ∙ (now-there s card work l F) i o;
+        workTable = back-there ts (omega (arith, room s card work l F .0)) ∙ now-here s card work l F;
+        workOthers = λ i z o. back-there i z ∙ now-there s card work l F i o;
         word = back-word;
       }
     where
@@ -98,14 +98,14 @@ module _ (s : Opened) (card work : List ℕ) (l : length card ≡ 512 * s .geo .
       → BothSynced s card work (withCount (s .c .0) (sec work 0)) (applySteps (unmountSteps s work) card) (unmountWork s work)
   unfolding downSteps downWork
   down-done live h =
-      let D = (done-by s card work l F) (write 0 (sec back 0) ∷ []) in
+      let D = done-by s card work l F (write 0 (sec back 0) ∷ []) in
       let e : applySteps (syncSteps s work (write 0 (sec back 0) ∷ [])) card ≡ setSec (D .card′) 0 (sec back 0) = D .ends ∙ (unfold applySteps in refl) in
-      let (u, v) = unmount-is live ((below s card work l F) h) in
+      let (u, v) = unmount-is live (below s card work l F h) in
       rw (u, v, e) (returned (D .card′) (D .images))
 
   top-done : s .worn ≡ false → s .t .0 ≡ maxTx → BothSynced s card work (sec work 0) (applySteps (unmountSteps s work) card) (unmountWork s work)
   unfolding downSteps downWork
-  top-done live h = let (u, v) = unmount-is live ((at-top s card work l F) h) in rw (u, v) (synced s card work l F)
+  top-done live h = let (u, v) = unmount-is live (at-top s card work l F h) in rw (u, v) (synced s card work l F)
 
   worn-done : s .worn ≡ true → (applySteps (unmountSteps s work) card ≡ card) × (unmountWork s work ≡ work)
   unfolding unmountSteps unmountStepsBy unmountWork unmountWorkBy applySteps

@@ -56,3 +56,6 @@ pub mod TrialsStore
 pub mod TrialsSync
 pub mod TrialsTable
 pub mod TrialsBuild
+pub mod TrialsEdit
+pub mod TrialsReuse
+pub mod TrialsEarly

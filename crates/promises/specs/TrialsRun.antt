@@ -38,25 +38,25 @@ isFirst (Open s) = eqb (s .t .0) 1
 -- ---- the calls of any session that fits
 
 -- put goes through where it finds an entry and a run
-put-plan : (s : Opened) (work n d : List ℕ) (j i : ℕ) → fits s work ≡ true → s .worn ≡ false → goodName n ≡ true
+pub put-plan : (s : Opened) (work n d : List ℕ) (j i : ℕ) → fits s work ≡ true → s .worn ≡ false → goodName n ≡ true
     → placeIn s work n ≡ At j → runIn s work (sectorsFor (length d)) ≡ At i → putPlan s work n d ≡ doIt j i
 unfolding putPlan guard need
 put-plan s work n d j i f w g p r = rw (f, g, p, r, w)
 
 -- sync goes through
-sync-plan : (s : Opened) (card work : List ℕ) → length card ≡ 512 * s .geo .s → fits s work ≡ true → s .worn ≡ false
+pub sync-plan : (s : Opened) (card work : List ℕ) → length card ≡ 512 * s .geo .s → fits s work ≡ true → s .worn ≡ false
     → bothPlan s card work (guard 9 (not (s .worn)) (doIt 0 0)) ≡ doIt 0 0
 unfolding bothPlan guard
 sync-plan s card work l f w = rw (eq-eqb (length card) (512 * s .geo .s) l, f, w)
 
 -- the world after such a put
-put-done : (s : Opened) (card work : List ℕ) (p : Pending) (m : List Item) (n d : List ℕ) (j i : ℕ) → putPlan s work n d ≡ doIt j i
+pub put-done : (s : Opened) (card work : List ℕ) (p : Pending) (m : List Item) (n d : List ℕ) (j i : ℕ) → putPlan s work n d ≡ doIt j i
     → after (putC n d) (mk card work (Open s) p m) ≡ mk card (putWork s j i work n d) (Open s) (allWritten (putWork s j i work n d) p) m
 unfolding after edited put ended done byNumber
 put-done s card work p m n d j i e = rw e
 
 -- and after such a sync
-sync-done : (s : Opened) (card work : List ℕ) (p : Pending) (m : List Item) → bothPlan s card work (guard 9 (not (s .worn)) (doIt 0 0)) ≡ doIt 0 0
+pub sync-done : (s : Opened) (card work : List ℕ) (p : Pending) (m : List Item) → bothPlan s card work (guard 9 (not (s .worn)) (doIt 0 0)) ≡ doIt 0 0
     → after syncC (mk card work (Open s) p m)
     ≡ mk (applySteps (syncSteps s work []) card) (syncWork s work) (Open (grown (atTop s) s)) (play (syncSteps s work []) p) (shownIn (Open s) work)
 unfolding after stepped stepsOf syncsBy sync syncDone ended done byNumber
@@ -88,7 +88,7 @@ mount-is = rw (mount-goes .0, mount-goes .1)
 pub reach-mounted : Reach mounted
 reach-mounted = subst Reach mount-is (call (fresh ten (freshCard ten) ten-ok) mountC)
 
-good : (goodName a ≡ true) × (goodName b ≡ true) × (sectorsFor (length seven) ≡ 1)
+pub good : (goodName a ≡ true) × (goodName b ≡ true) × (sectorsFor (length seven) ≡ 1)
 unfolding goodName sectorsFor every
 good = (refl, refl, refl)
 
@@ -101,7 +101,7 @@ pub reach-putA : Reach putA
 unfolding mounted putA workA
 reach-putA = subst Reach (put-done (stretch 1) start start _ _ a seven 0 6 a-goes) (call reach-mounted (putC a seven))
 
-start-sized : length start ≡ 512 * 10
+pub start-sized : length start ≡ 512 * 10
 unfolding start
 start-sized = applySteps-length (mountSteps (freshCard ten)) (freshCard ten) ∙ fresh-length ten ten-ok
 
@@ -114,7 +114,7 @@ pub reach-synced : Reach synced
 unfolding mounted putA synced cardS workS grown atTop
 reach-synced = subst Reach (sync-done (stretch 1) start workA _ _ sync-goes) (call reach-putA syncC)
 
-b-goes : putPlan (stretch 2) workS b seven ≡ doIt 1 7
+pub b-goes : putPlan (stretch 2) workS b seven ≡ doIt 1 7
 b-goes =
     let f : fits (stretch 2) workS ≡ true = unfold synced in always-fits reach-synced in
     put-plan (stretch 2) workS b seven 1 7 f refl (good .1) (finds .2) (rw (good .2) (finds .3))

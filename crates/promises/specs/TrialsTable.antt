@@ -55,7 +55,7 @@ put-wrote : (j : ℕ) → List·Memᴰ (sec (putB .work) j) (putB .pending j)
 unfolding putB allWritten
 put-wrote j = List·Memᴰ·head refl
 
-new-wide : length newTable ≡ 512
+pub new-wide : length newTable ≡ 512
 unfolding newTable setWord putB
 new-wide = sec-in (setWord 0 2 (putB .work)) 10 1 (splice-length (putB .work) _ _ ∙ putB-sized .1) (omega arith)
 
@@ -75,7 +75,7 @@ unfolding tableLanded putB
 at-other j o = set-there 10 _ newTable 1 inner-sized (omega arith) new-wide j o
 
 -- each is one that the sector may hold
-held : (j : ℕ) → 512 * j < length (putB .card) → List·Memᴰ (sec tableLanded j) (written 1 newTable (putB .pending) j)
+pub held : (j : ℕ) → 512 * j < length (putB .card) → List·Memᴰ (sec tableLanded j) (written 1 newTable (putB .pending) j)
 held j l = go (ℕ-discrete j 1) (ℕ-discrete j 5)
   where
     go : Dec (j ≡ 1) → Dec (j ≡ 5) → List·Memᴰ (sec tableLanded j) (written 1 newTable (putB .pending) j)
