@@ -59,3 +59,5 @@ pub mod TrialsBuild
 pub mod TrialsEdit
 pub mod TrialsReuse
 pub mod TrialsEarly
+pub mod TrialsFar
+pub mod TrialsWrap

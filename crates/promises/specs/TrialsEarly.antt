@@ -19,6 +19,7 @@ use Rattle.promises.specs.History.{Pending, written, play, allWritten, L
 use Rattle.promises.specs.Inv.{mk}
 use Rattle.promises.specs.Play.{written-here, written-there, written-cases}
 use Rattle.store.specs.Sync.{sync}
+use Rattle.promises.specs.Demand.{card-possible}
 use Rattle.promises.specs.TrialsCard.{b, seven, stretch, cardS, workS, workB, newTable, tableLanded, table-unsound, computes}
 use Rattle.promises.specs.TrialsRun.{synced, reach-synced, b-goes, putB, reach-putB, at-putB}
 use Rattle.promises.specs.TrialsSync.{CutsRead}
@@ -60,7 +61,7 @@ word-early h = clash (now earlyLanded left .isSound) (early-reads .2)
     now = unfold synced edited byNumber done in rw early-done at (h synced reach-synced b seven)
 
     left : Left (allWritten workEarly (synced .pending)) (length cardS) earlyLanded
-    left = unfold synced in some-landed synced reach-synced workEarly earlyLanded (unfold earlyLanded in (setSec-length _ 1 _ ∙ setSec-length cardS 5 (sec workEarly 5))) early-each
+    left = unfold synced in some-landed (synced .pending) cardS workEarly earlyLanded (card-possible synced reach-synced .0) (unfold earlyLanded in (setSec-length _ 1 _ ∙ setSec-length cardS 5 (sec workEarly 5))) early-each
 
 -- ---- a sync that writes it first, and then copies the working image in rising order, the table with the rest
 

@@ -44,14 +44,11 @@ unfolding after
 of-this-put w r n d = demand-three (after (putC n d) w) (call r (putC n d)) .0
 
 -- after a put that gives 0 a cut may leave any card of which each sector is the new working image's or the card's
-pub some-landed : (w : World) → Reach w → (image k : List ℕ) → length k ≡ length (w .card) → ((j : ℕ) → (sec k j ≡ sec image j) ⊎ (sec k j ≡ sec (w .card) j))
-    → Left (allWritten image (w .pending)) (length (w .card)) k
+pub some-landed : (p : Pending) (card image k : List ℕ) → Left p (length card) card → length k ≡ length card
+    → ((j : ℕ) → (sec k j ≡ sec image j) ⊎ (sec k j ≡ sec card j)) → Left (allWritten image p) (length card) k
 unfolding allWritten
-some-landed w r image k l f =
-    record {
-      sized = l;
-      held = λ j q. ⊎-elim (λ e. List·Memᴰ·head e) (λ e. List·Memᴰ·tail (rw e (card-possible w r .0 .held j q))) (f j);
-    }
+some-landed p card image k h l f =
+    record { sized = l; held = λ j q. ⊎-elim (λ e. List·Memᴰ·head e) (λ e. List·Memᴰ·tail (rw e (h .held j q))) (f j) }
 
 -- a card on which one sector of another image has landed
 pub one-landed : (S i : ℕ) (card image : List ℕ) → length card ≡ 512 * S → length image ≡ 512 * S → i < S
@@ -71,7 +68,7 @@ pub one-shows : (w : World) → Reach w → (r : Changed) (S i : ℕ) → r .ans
 unfolding edited byNumber
 one-shows w reach r S i z l m h o c =
     let now : CutsRead (mk (w .card) (r .image) (w .session) (allWritten (r .image) (w .pending)) (w .last)) = rw z at c in
-    let k = some-landed w reach (r .image) _ (setSec-length (w .card) i (sec (r .image) i)) (one-landed S i (w .card) (r .image) l m h) in
+    let k = some-landed (w .pending) (w .card) (r .image) _ (card-possible w reach .0) (setSec-length (w .card) i (sec (r .image) i)) (one-landed S i (w .card) (r .image) l m h) in
     o (now (setSec (w .card) i (sec (r .image) i)) k .shows)
 
 -- ---- the builds: put, by any choice of the entry and of the run

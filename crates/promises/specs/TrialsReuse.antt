@@ -1,5 +1,5 @@
--- Wrong builds of put: a sector freed since the last sync is used, an entry gets a new name while the cut view shows it, table word c is set in the
--- working image early. Each gives 0, and after one sector has landed a cut reads as no moment did: demand 3 is false of it. Assumes nothing.
+-- Wrong builds of put: a sector freed since the last sync is used; an entry gets a new name while the cut view shows it. Each gives 0, and with one sector
+-- landed a cut reads as no moment did: demand 3 is false of it. Assumes nothing.
 use mathlib.Core.Path.{_≡_, refl, sym, ap, _∙_}
 use mathlib.Core.Bool.{true, false}
 use mathlib.Core.List.{List, [], _∷_}
@@ -10,7 +10,6 @@ use native.Mathlib.Omega.{arith}
 use lib.ListN.{length}
 use Rattle.words.specs.declared.Found.{Found}
 use Rattle.words.specs.declared.Found.the-variants.{At}
-use Rattle.words.specs.BoolLaws.{never}
 use Rattle.sectors.specs.Sectors.{sec, setSec}
 use Rattle.entries.specs.Entries.{goodName, sectorsFor}
 use Rattle.card.specs.Plan.{guard, need, ended, doIt, done, Changed}
@@ -23,6 +22,7 @@ use Rattle.promises.specs.PlainList.{Item, shownBy, lookup}
 use Rattle.promises.specs.History.{World, Reach}
 use Rattle.promises.specs.TrialsCard.{a, b, seven, stretch, cardS, computes}
 use Rattle.promises.specs.TrialsRun.{at-synced, good}
+use Rattle.promises.specs.TrialsSync.{some-none}
 use Rattle.promises.specs.TrialsEdit.{PutsRead, one-shows, planBy, putBy, runNow, placeNow, workR, removed, reach-removed, removed-fits}
 
 -- a put that finds an entry and a run goes through
@@ -40,9 +40,6 @@ by-done place run s work n d j i e = rw e
 -- two lists that have different contents under a name
 some-other : (l m : List Item) (n d e : List ℕ) → lookup n l ≡ some d → lookup n m ≡ some e → d ≢ e → l ≢ m
 some-other l m n d e p q o h = o (let u : some d ≡ some e = sym p ∙ ap (lookup n) h ∙ q in cc)
-
-none-some : (l m : List Item) (n d : List ℕ) → lookup n l ≡ none → lookup n m ≡ some d → l ≢ m
-none-some l m n d p q h = let u : none ≡ some d = sym p ∙ ap (lookup n) h ∙ q in never (cc)
 
 -- a put that gives 0 and this image is refused, if sector i, landed alone, changes what is read
 refuse : (w : World) → Reach w → (p : Session → List ℕ → List ℕ → List ℕ → Changed) → PutsRead p → (n d image : List ℕ) (i : ℕ)
@@ -103,4 +100,4 @@ new-name-over-cut h =
     refuse removed reach-removed _ h b seven workOver 5
     (unfold workOver in by-done placeNow runIn (stretch 2) workR b seven 0 7
     (by-plan placeNow runIn (stretch 2) workR b seven 0 7 removed-fits refl (good .1) (over-finds .0) (rw (good .2) (reuse-finds .2))))
-    card-sized (over-shows .0) (omega arith) (none-some _ _ a seven (over-shows .1) at-synced)
+    card-sized (over-shows .0) (omega arith) (λ e. some-none _ _ a seven at-synced (over-shows .1) (sym e))

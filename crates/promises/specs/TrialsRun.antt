@@ -38,7 +38,7 @@ isFirst (Open s) = eqb (s .t .0) 1
 -- ---- the calls of any session that fits
 
 -- put goes through where it finds an entry and a run
-pub put-plan : (s : Opened) (work n d : List ℕ) (j i : ℕ) → fits s work ≡ true → s .worn ≡ false → goodName n ≡ true
+put-plan : (s : Opened) (work n d : List ℕ) (j i : ℕ) → fits s work ≡ true → s .worn ≡ false → goodName n ≡ true
     → placeIn s work n ≡ At j → runIn s work (sectorsFor (length d)) ≡ At i → putPlan s work n d ≡ doIt j i
 unfolding putPlan guard need
 put-plan s work n d j i f w g p r = rw (f, g, p, r, w)
@@ -50,7 +50,7 @@ unfolding bothPlan guard
 sync-plan s card work l f w = rw (eq-eqb (length card) (512 * s .geo .s) l, f, w)
 
 -- the world after such a put
-pub put-done : (s : Opened) (card work : List ℕ) (p : Pending) (m : List Item) (n d : List ℕ) (j i : ℕ) → putPlan s work n d ≡ doIt j i
+put-done : (s : Opened) (card work : List ℕ) (p : Pending) (m : List Item) (n d : List ℕ) (j i : ℕ) → putPlan s work n d ≡ doIt j i
     → after (putC n d) (mk card work (Open s) p m) ≡ mk card (putWork s j i work n d) (Open s) (allWritten (putWork s j i work n d) p) m
 unfolding after edited put ended done byNumber
 put-done s card work p m n d j i e = rw e
@@ -101,7 +101,7 @@ pub reach-putA : Reach putA
 unfolding mounted putA workA
 reach-putA = subst Reach (put-done (stretch 1) start start _ _ a seven 0 6 a-goes) (call reach-mounted (putC a seven))
 
-pub start-sized : length start ≡ 512 * 10
+start-sized : length start ≡ 512 * 10
 unfolding start
 start-sized = applySteps-length (mountSteps (freshCard ten)) (freshCard ten) ∙ fresh-length ten ten-ok
 

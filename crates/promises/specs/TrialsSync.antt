@@ -59,7 +59,7 @@ unfoldable pub lateSteps : World → List Step
 lateSteps w = cond (isFirst (w .session)) (stepsOf syncC w) []
 
 -- lists of which one has a name and the other has not
-some-none : (l m : List Item) (n d : List ℕ) → lookup n l ≡ some d → lookup n m ≡ none → l ≢ m
+pub some-none : (l m : List Item) (n d : List ℕ) → lookup n l ≡ some d → lookup n m ≡ none → l ≢ m
 some-none l m n d p q e = let u : none ≡ some d = sym q ∙ ap (lookup n) (sym e) ∙ p in never (cc)
 
 -- it does as this store does up to the world `putB`: its first sync is this store's

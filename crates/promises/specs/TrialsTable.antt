@@ -55,7 +55,7 @@ put-wrote : (j : ℕ) → List·Memᴰ (sec (putB .work) j) (putB .pending j)
 unfolding putB allWritten
 put-wrote j = List·Memᴰ·head refl
 
-pub new-wide : length newTable ≡ 512
+new-wide : length newTable ≡ 512
 unfolding newTable setWord putB
 new-wide = sec-in (setWord 0 2 (putB .work)) 10 1 (splice-length (putB .work) _ _ ∙ putB-sized .1) (omega arith)
 
