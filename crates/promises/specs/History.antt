@@ -1,4 +1,5 @@
--- Demand 3, stated: worlds, calls, cuts, histories, and what every cut leaves. A reader needs document 01 and this file. Assumes nothing.
+-- Demand 3, stated: worlds, calls, cuts, histories, and what every cut leaves. A reader needs document 01, this file, and store/Steps for the steps that mount,
+-- sync and unmount take, with their barriers (Barriers says where these stand). Assumes nothing.
 use mathlib.Core.Path.{_≡_}
 use mathlib.Core.Bool.{Bool, true, false, cond}
 use mathlib.Core.List.{List, [], _∷_, List·Memᴰ}

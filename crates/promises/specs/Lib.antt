@@ -10,6 +10,7 @@ pub mod ListLaws
 pub mod ViewShows
 pub mod ShownProved
 pub mod History
+pub mod Barriers
 pub mod Keep
 pub mod Alone
 pub mod Edit
@@ -46,6 +47,7 @@ pub mod Steps
 pub mod StepAll
 pub mod Within
 pub mod Demand
+pub mod Sharp
 pub mod CardRun
 pub mod Possible
 pub mod ReadsReads

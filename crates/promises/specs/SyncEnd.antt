@@ -126,7 +126,7 @@ module _ (s : Opened) (card work : List ℕ) (p : Pending) (m : List Item) (V₀
           shows = sym (bump-items g down now bump good) ∙ sync-shows s work F live;
         }
 
-    down-calm : Calm g down may (shownIn (Open s) work)
+    pub down-calm : Calm g down may (shownIn (Open s) work)
     down-calm =
         record {
           is = down-good;
