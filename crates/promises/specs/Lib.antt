@@ -29,6 +29,7 @@ pub mod Untouched
 pub mod FitMount
 pub mod FitHistory
 pub mod Steady
+pub mod FitKept
 pub mod Leaves
 pub mod LeavesSync
 pub mod LeavesUnmount
