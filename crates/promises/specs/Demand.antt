@@ -1,6 +1,7 @@
 -- Demand 3: "at every moment" of every history a cut leaves a card that reads as it should. Assumes nothing.
 use mathlib.Core.Logic.{⊎-elim}
 use lib.ListN.{length}
+use Rattle.card.specs.MeansParts.{limits-mean}
 use Rattle.promises.specs.History.{Left, World, Reach, fresh, call, cut, cutIn, Reads, Demand3}
 use Rattle.promises.specs.Inv.{Inv, inv-calm, inv-reads, inv-left}
 use Rattle.promises.specs.Steps.{inv-fresh}
@@ -9,7 +10,7 @@ use Rattle.promises.specs.Within.{inv-within}
 
 -- every world of every history has the invariant
 pub inv : {w : World} → Reach w → Inv w
-inv (fresh g work ok) = inv-fresh g work ok
+inv (fresh g work ok) = inv-fresh g work (limits-mean g .1 ok)
 inv (call {w = w} r c) = inv-step w (inv r) c
 inv (cut {w = w} r card work x) = inv-calm card work _ (inv-reads w (inv r) card x)
 inv (cutIn {w = w} r c n card work x) = ⊎-elim (λ q. inv-calm card work _ q) (λ q. inv-calm card work _ (q .1)) (inv-within w (inv r) c n card x)

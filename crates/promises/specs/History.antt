@@ -9,12 +9,12 @@ use lib.ListN.{length, take}
 use lib.Dec.{eqb}
 use Rattle.sectors.specs.Sectors.{sec, Step, write, settle}
 use Rattle.counts.specs.declared.Geo.{Geo}
-use Rattle.counts.specs.Geometry.{gF, geoOk, geoOf}
+use Rattle.counts.specs.Geometry.{gF, geoOf}
 use Rattle.apages.specs.Bits.{bitAt}
 use Rattle.card.specs.declared.Line.{Line}
 use Rattle.card.specs.Plan.{Changed}
 use Rattle.card.specs.Files.{cover}
-use Rattle.card.specs.Sound.{shapeOk, sound}
+use Rattle.card.specs.Means.{InLimits, Sound}
 use Rattle.card.specs.Make.{freshCard, make}
 use Rattle.card.specs.Reading.{filesShown, pageShown}
 use Rattle.session.specs.declared.Session.{Session}
@@ -162,7 +162,7 @@ unfoldable pub pendingIn : Call → ℕ → World → Pending
 pendingIn c n w = play (take n (stepsOf c (before c w))) (before c w .pending)
 
 pub data Reach : World → Type 0 where
-  fresh : (g : Geo) (work : List ℕ) → geoOk g ≡ true → Reach (afterCut (freshCard g) work)
+  fresh : (g : Geo) (work : List ℕ) → InLimits g → Reach (afterCut (freshCard g) work)
   call : {w : World} → Reach w → (c : Call) → Reach (after c w)
   cut : {w : World} → Reach w → (card work : List ℕ) → Left (w .pending) (length (w .card)) card → Reach (afterCut card work)
   cutIn : {w : World} → Reach w → (c : Call) (n : ℕ) (card work : List ℕ) → Left (pendingIn c n w) (length (w .card)) card → Reach (afterCut card work)
@@ -171,8 +171,9 @@ pub data Reach : World → Type 0 where
 
 -- a card that reads as exactly these files, and on which "each data sector is in exactly one shown file or free"
 pub record Reads (card : List ℕ) (files : List Item) : Type 0 where
-  pub shape : shapeOk card ≡ true
-  pub isSound : sound card ≡ true
+  pub limits : InLimits (geoOf (sec card))
+  pub sized : length card ≡ 512 * geoOf (sec card) .s
+  pub isSound : Sound card
   pub shows : shownBy card ≡ files
   pub bits : (n : ℕ) → gF (geoOf (sec card)) ≤ n → n < geoOf (sec card) .s → bitAt (pageShown card) n ≡ cover (filesShown card) n
   pub once : (n : ℕ) → cover (filesShown card) n ≤ 1

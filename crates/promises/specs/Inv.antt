@@ -40,7 +40,7 @@ unfolding afterCut
 inv-calm card work m r = (
   geoOf (sec card),
   good-rests (geoOf (sec card)) card (shownBy card)
-      (reads-good card (shownBy card) (record { shape = r .shape; isSound = r .isSound; shows = refl; bits = r .bits; once = r .once })),
+      (reads-good card (shownBy card) (record { limits = r .limits; sized = r .sized; isSound = r .isSound; shows = refl; bits = r .bits; once = r .once })),
 )
 
 -- what a cut leaves reads as the latest moment

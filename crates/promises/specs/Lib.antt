@@ -10,6 +10,7 @@ pub mod ListLaws
 pub mod ViewShows
 pub mod ShownProved
 pub mod History
+pub mod ReadsBy
 pub mod Barriers
 pub mod Keep
 pub mod Alone

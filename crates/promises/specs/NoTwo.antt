@@ -26,7 +26,7 @@ use Rattle.store.specs.Look.{get, list, free}
 use Rattle.store.specs.Sync.{land, sync, unmount}
 use Rattle.promises.specs.Numbers.{Row, row, Gives, Exactly, Misshapen, closed, ofCard, unfit, makeRows, mountRows, putRows, removeRows, getRows, listRows, freeRows, landRows, syncRows, unmountRows, readRows, readListRows, readGetRows}
 use Rattle.promises.specs.RowLaws.{small, at-most, clash}
-use Rattle.promises.specs.NumbersWhole.{outside, shaped-means}
+use Rattle.promises.specs.NumbersWhole.{outside}
 use Rattle.promises.specs.NumbersProved.{numbers}
 use Rattle.promises.specs.History.{World, Reach}
 use Rattle.promises.specs.FitHistory.{FitOf, always-fits}
@@ -102,7 +102,7 @@ pub no-two : {w : World} → Reach w → NoTwo w
 no-two {w} r =
     let f = always-fits r in
     let R = card-possible w r .1 in
-    let c : Sound (w .card) = shaped-means (w .card) (R .shape) .0 (R .isSound) in
+    let c : Sound (w .card) = R .isSound in
     record {
       ofPut = λ n d e. fitting (w .session) (w .work) (rest (rest (putRows (w .session) (w .work) n d))) f refl (numbers .ofPut (w .session) (w .work) n d 2 .0 e);
       ofRemove = λ n e. fitting (w .session) (w .work) (rest (rest (removeRows (w .session) (w .work) n))) f refl (numbers .ofRemove (w .session) (w .work) n 2 .0 e);

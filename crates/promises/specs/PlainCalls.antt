@@ -1,31 +1,36 @@
 -- Demand 2, "answers as a plain list of names with contents does", stated: names, get, list, free and reading. Assumes nothing.
 use mathlib.Core.Path.{_≡_}
-use mathlib.Core.Bool.{true, not, cond}
-use mathlib.Core.List.{List, [], _∷_, _++_}
+use mathlib.Core.Bool.{cond}
+use mathlib.Core.List.{List, [], _∷_, _++_, List·Memᴰ}
+use mathlib.Core.Logic.{_≢_}
 use mathlib.Core.Option.{Option, none, some}
-use Prim.Native.Nat.{ℕ, _+_, _≤_}
+use Prim.Native.Nat.{ℕ, _+_, _*_, _≤_}
 use lib.Dec.{leb}
 use lib.ListN.{length, drop}
-use Rattle.words.specs.Lists.{every, pairwise, eqList, splice}
+use Rattle.words.specs.Lists.{splice}
 use Rattle.sectors.specs.Sectors.{sec}
 use Rattle.counts.specs.Geometry.{gN, gF, geoOf, countOf}
-use Rattle.entries.specs.Entries.{goodName}
 use Rattle.card.specs.declared.Line.{Line}
 use Rattle.card.specs.Plan.{refused, done, Got}
 use Rattle.card.specs.Files.{sectorsOf}
-use Rattle.card.specs.Sound.{shapeOk, sound}
+use Rattle.card.specs.Means.{InLimits, GoodName, Sound}
 use Rattle.card.specs.Reading.{filesShown, read, readList, readGet}
 use Rattle.session.specs.declared.Opened.{Opened}
 use Rattle.session.specs.declared.Session.the-variants.{Open}
 use Rattle.session.specs.Views.{presentFiles}
-use Rattle.session.specs.Fits.{fits}
+use Rattle.session.specs.FitMeans.{Fits}
 use Rattle.store.specs.Look.{get, list, free}
 use Rattle.promises.specs.PlainList.{Item, lineName, lookup, shownBy, shownIn}
 
+-- "no two alike"
+abbrev pub NoTwoAlike : List Item → Type 0
+NoTwoAlike [] = Unit
+NoTwoAlike (x ∷ xs) = ((y : Item) → List·Memᴰ y xs → x .name ≢ y .name) × NoTwoAlike xs
+
 -- "good names, no two alike"
 pub record Names (l : List Item) : Type 0 where
-  pub good : every (λ x. goodName (x .name)) l ≡ true
-  pub alone : pairwise (λ x y. not (eqList (x .name) (y .name))) l ≡ true
+  pub good : (x : Item) → List·Memᴰ x l → GoodName (x .name)
+  pub alone : NoTwoAlike l
 
 -- get of a good name, from what the list has under it: 6 for nothing, 10 where the output is shorter, else the content over its first bytes
 unfoldable pub plainGet : Option (List ℕ) → List ℕ → Got
@@ -46,7 +51,7 @@ pub data Lines : List Item → List Line → Type 0 where
 -- a session that fits
 pub record SessionShows (s : Opened) (work : List ℕ) : Type 0 where
   pub names : Names (shownIn (Open s) work)
-  pub gets : (n out : List ℕ) → goodName n ≡ true → get (Open s) work n out ≡ plainGet (lookup n (shownIn (Open s) work)) out
+  pub gets : (n out : List ℕ) → GoodName n → get (Open s) work n out ≡ plainGet (lookup n (shownIn (Open s) work)) out
   pub tells : Lines (shownIn (Open s) work) (presentFiles s (sec work))
   pub lists : (lines : List Line) → length (shownIn (Open s) work) ≤ length lines
       → list (Open s) work lines ≡ record { answer = done (length (shownIn (Open s) work)); lines = presentFiles s (sec work) ++ drop (length (shownIn (Open s) work)) lines }
@@ -56,7 +61,7 @@ pub record SessionShows (s : Opened) (work : List ℕ) : Type 0 where
 -- a card of the right shape that is sound
 pub record CardShows (card : List ℕ) : Type 0 where
   pub names : Names (shownBy card)
-  pub gets : (n out : List ℕ) → goodName n ≡ true → readGet card n out ≡ plainGet (lookup n (shownBy card)) out
+  pub gets : (n out : List ℕ) → GoodName n → readGet card n out ≡ plainGet (lookup n (shownBy card)) out
   pub tells : Lines (shownBy card) (filesShown card)
   pub lists : (lines : List Line) → length (shownBy card) ≤ length lines
       → readList card lines ≡ record { answer = done (length (shownBy card)); lines = filesShown card ++ drop (length (shownBy card)) lines }
@@ -65,4 +70,5 @@ pub record CardShows (card : List ℕ) : Type 0 where
       × (read card .files ≡ length (shownBy card)) × (read card .free + sectorsOf (filesShown card) + gF (geoOf (sec card)) ≡ geoOf (sec card) .s)
 
 abbrev pub AllShow : Type 0
-AllShow = ((s : Opened) (work : List ℕ) → fits s work ≡ true → SessionShows s work) × ((card : List ℕ) → shapeOk card ≡ true → sound card ≡ true → CardShows card)
+AllShow = ((s : Opened) (work : List ℕ) → Fits s work → SessionShows s work)
+    × ((card : List ℕ) → InLimits (geoOf (sec card)) → length card ≡ 512 * geoOf (sec card) .s → Sound card → CardShows card)

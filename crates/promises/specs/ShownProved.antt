@@ -14,15 +14,18 @@ use Rattle.apages.specs.Bits.{clearBits}
 use Rattle.card.specs.declared.Line.{Line}
 use Rattle.card.specs.Plan.{Plan, guard, ended, doIt, done}
 use Rattle.card.specs.Files.{filesOf, sectorsOf, getPlan, getEnd, listPlan, listEnd}
-use Rattle.card.specs.SoundLaws.{View, view-inv, sound-inv, sound-view, shape-inv}
+use Rattle.card.specs.SoundLaws.{View, view-inv, sound-inv, sound-view, shape-inv, shape-intro}
 use Rattle.card.specs.SpaceLaws.{view-space, card-space}
 use Rattle.card.specs.Sound.{shapeOk, sound}
+use Rattle.card.specs.MeansParts.{limits-mean, name-means}
+use Rattle.card.specs.MeansProved.{sound-means}
 use Rattle.card.specs.Reading.{filesIn, filesShown, readPlan, read, readList, readGet}
 use Rattle.session.specs.declared.Opened.{Opened}
 use Rattle.session.specs.declared.Session.the-variants.{Open}
 use Rattle.session.specs.Views.{presentTable, presentPage, presentFiles, sessionFiles}
 use Rattle.session.specs.Fits.{fits}
 use Rattle.session.specs.FitLaws.{Fit, fit-inv}
+use Rattle.session.specs.FitMeansProved.{fits-mean}
 use Rattle.store.specs.Look.{get, list, free}
 use Rattle.promises.specs.PlainList.{lookup, shownBy, shownIn}
 use Rattle.promises.specs.PlainCalls.{plainGet, Lines, SessionShows, CardShows, AllShow}
@@ -74,7 +77,7 @@ module _ (s : Opened) (work : List ℕ) (fit : fits s work ≡ true) where
   session-shows =
       record {
         names = rw is-list (view-names (s .geo) (s .c .0) tp (tableOf (s .geo) (sec work)) work (F .shape) (F .sized) U (F .alone));
-        gets = λ n out good. get-is n out ∙ rw is-list (view-get (s .geo) (s .c .0) tp (tableOf (s .geo) (sec work)) work (F .shape) (F .sized) U (F .alone) n out good);
+        gets = λ n out good. get-is n out ∙ rw is-list (view-get (s .geo) (s .c .0) tp (tableOf (s .geo) (sec work)) work (F .shape) (F .sized) U (F .alone) n out (name-means n .1 good));
         tells = rw is-list (unfold presentFiles in view-told (s .geo) (s .c .0) tp (tableOf (s .geo) (sec work)) work (F .shape) (F .sized) U (F .alone));
         lists = session-lists;
         frees = session-frees;
@@ -136,11 +139,14 @@ module _ (card : List ℕ) (shape : shapeOk card ≡ true) (good : sound card �
   card-shows =
       record {
         names = rw shown-list (view-names g (countOf (sec card)) tab tab card (shape-inv card shape .0) (shape-inv card shape .1) W lone);
-        gets = card-gets;
+        gets = λ n out good. card-gets n out (name-means n .1 good);
         tells = card-told;
         lists = card-lists;
         counts = card-counts;
       }
 
 pub all-show : AllShow
-all-show = (session-shows, card-shows)
+all-show = (
+  λ s work f. session-shows s work (fits-mean s work .1 f),
+  λ card l n q. card-shows card (shape-intro (geoOf (sec card)) card refl (limits-mean (geoOf (sec card)) .1 l) n) (sound-means card l n .1 q),
+)

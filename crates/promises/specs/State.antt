@@ -20,12 +20,14 @@ use Rattle.card.specs.Files.{cover, filesOf}
 use Rattle.card.specs.FileLaws.{cover-out}
 use Rattle.card.specs.Reading.{filesIn, filesShown, pageShown}
 use Rattle.card.specs.Sound.{soundIn, sound}
+use Rattle.card.specs.Means.{InLimits, Sound}
 use Rattle.card.specs.SoundLaws.{View, sound-view, view-page, shape-inv, shape-intro}
 use Rattle.card.specs.AgreeLaws.{Bump, bump-sound}
 use Rattle.card.specs.BitmapLaws.{InData, in-data, wanted-in, page-bits}
 use Rattle.session.specs.declared.Opened.{Opened}
 use Rattle.promises.specs.PlainList.{Item, items, shownBy}
 use Rattle.promises.specs.History.{Pending, newest, settled, Left, Reads}
+use Rattle.promises.specs.ReadsBy.{reads-shape, reads-sound, means-sound}
 use Rattle.promises.specs.Keep.{Keeps, kept-sound, kept-files}
 use Rattle.promises.specs.Items.{items-same, sound-within, base-data, bump-items}
 use Rattle.promises.specs.Ready.{ownOf}
@@ -66,17 +68,21 @@ module _ (g : Geo) (card : List ℕ) (m : List Item) (G : Good g card m) where
   pub good-reads : Reads card m
   good-reads =
       record {
-        shape = shape-intro g card (G .geo) (G .ok) (G .sized);
-        isSound = (unfold sound in rw (G .geo) (G .good));
+        limits = both-mean .0;
+        sized = rw (G .geo) (G .sized);
+        isSound = both-mean .1;
         shows = (unfold shownBy filesShown in rw (G .geo) (G .shows));
         bits = (unfold pageShown filesShown in rw (G .geo) bits-cover);
         once = (unfold filesShown in rw (G .geo) cover-once);
       }
+    where
+      both-mean : InLimits (geoOf (sec card)) × Sound card
+      both-mean = means-sound card (shape-intro g card (G .geo) (G .ok) (G .sized)) (unfold sound in rw (G .geo) (G .good))
 
 pub reads-good : (card : List ℕ) (m : List Item) → Reads card m → Good (geoOf (sec card)) card m
 reads-good card m r =
-    let (a, b) = shape-inv card (r .shape) in
-    record { sized = b; geo = refl; ok = a; good = (unfold sound in r .isSound); shows = (unfold shownBy filesShown in r .shows) }
+    let (a, b) = shape-inv card (reads-shape r) in
+    record { sized = b; geo = refl; ok = a; good = (unfold sound in reads-sound r); shows = (unfold shownBy filesShown in r .shows) }
 
 -- ---- no session: every sector is settled, but the count may be one too high
 

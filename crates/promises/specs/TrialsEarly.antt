@@ -11,6 +11,7 @@ use Rattle.sectors.specs.Sectors.{sec, setSec, Step, write, settle, copySteps}
 use Rattle.sectors.specs.SectorLaws.{setSec-length}
 use Rattle.card.specs.Sound.{sound}
 use Rattle.promises.specs.RowLaws.{clash}
+use Rattle.promises.specs.ReadsBy.{reads-sound}
 use Rattle.card.specs.Plan.{ended, done}
 use Rattle.session.specs.declared.Session.{Session}
 use Rattle.session.specs.declared.Session.the-variants.{Closed, Open}
@@ -55,7 +56,7 @@ early-done = rw b-goes
 -- it is refused
 pub word-early : ¬ PutsRead earlyPut
 unfolding synced
-word-early h = clash (now earlyLanded left .isSound) (early-reads .2)
+word-early h = clash (reads-sound (now earlyLanded left)) (early-reads .2)
   where
     now : CutsRead (mk cardS workEarly (Open (stretch 2)) (allWritten workEarly (synced .pending)) (synced .last))
     now = unfold synced edited byNumber done in rw early-done at (h synced reach-synced b seven)
@@ -106,4 +107,4 @@ two-left = rw two-steps (record { sized = sized; held = λ j l. ⊎-elim (here j
 -- it is not sound, so it reads as neither list
 pub table-early-cut : ¬ StepsRead copyAllOf
 table-early-cut h =
-    ⊎-elim (λ r. clash (r .isSound) table-unsound) (λ r. clash (r .isSound) table-unsound) (h putB reach-putB 2 tableLanded two-left)
+    ⊎-elim (λ r. clash (reads-sound r) table-unsound) (λ r. clash (reads-sound r) table-unsound) (h putB reach-putB 2 tableLanded two-left)

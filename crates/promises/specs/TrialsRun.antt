@@ -15,6 +15,7 @@ use Rattle.entries.specs.Entries.{goodName, sectorsFor}
 use Rattle.card.specs.Plan.{doIt, guard, need, ended, done}
 use Rattle.card.specs.Make.{freshCard}
 use Rattle.card.specs.FreshSectors.{fresh-length}
+use Rattle.card.specs.MeansParts.{limits-mean}
 use Rattle.store.specs.Steps.{mountSteps, syncSteps, atTop, syncWork}
 use Rattle.store.specs.Mount.{mountDone, mount}
 use Rattle.store.specs.Edit.{placeIn, runIn, putPlan, putWork, put}
@@ -86,7 +87,7 @@ mount-is = rw (mount-goes .0, mount-goes .1)
 
 -- each is reached by a history of this store
 pub reach-mounted : Reach mounted
-reach-mounted = subst Reach mount-is (call (fresh ten (freshCard ten) ten-ok) mountC)
+reach-mounted = subst Reach mount-is (call (fresh ten (freshCard ten) (limits-mean ten .0 ten-ok)) mountC)
 
 pub good : (goodName a ≡ true) × (goodName b ≡ true) × (sectorsFor (length seven) ≡ 1)
 unfolding goodName sectorsFor every

@@ -32,8 +32,9 @@ use Rattle.store.specs.Look.{list, free}
 use Rattle.promises.specs.PlainList.{Item, items, lookup, With, shownBy, shownIn}
 use Rattle.promises.specs.PlainCalls.{Lines}
 use Rattle.promises.specs.ViewShows.{lines-length}
-use Rattle.promises.specs.ShownProved.{all-show}
+use Rattle.promises.specs.ShownProved.{session-shows, card-shows}
 use Rattle.promises.specs.Answers.{put-answers}
+use Rattle.promises.specs.ReadsBy.{reads-shape, reads-sound}
 use Rattle.promises.specs.Demand.{card-possible}
 use Rattle.promises.specs.LookLaws.{with-look}
 use Rattle.promises.specs.Synced.{sync-length, room, inside}
@@ -93,28 +94,28 @@ has-some (x ∷ l) n d p e = absurd (omega (arith, e))
 -- a count that adds up to S is the count of this store's free
 pub free-true : (s : Opened) (work : List ℕ) → fits s work ≡ true → (k : ℕ) → k + sectorsOf (presentFiles s (sec work)) + gF (s .geo) ≡ s .geo .s
     → k ≡ free (Open s) work .count
-free-true s work f k h = omega (arith, h, all-show .0 s work f .frees .1)
+free-true s work f k h = omega (arith, h, session-shows s work f .frees .1)
 
 -- and so it is where a card is read
 pub read-free-true : (card : List ℕ) → shapeOk card ≡ true → sound card ≡ true
     → (k : ℕ) → k + sectorsOf (filesShown card) + gF (geoOf (sec card)) ≡ geoOf (sec card) .s → k ≡ read card .free
-read-free-true card p q k h = omega (arith, h, all-show .1 card p q .counts .4)
+read-free-true card p q k h = omega (arith, h, card-shows card p q .counts .4)
 
 -- lines that tell the names and lengths of the files, one line a file, are as many as this store's list counts
 pub list-true : (s : Opened) (work : List ℕ) → fits s work ≡ true → (ls : List Line) → Lines (shownIn (Open s) work) ls
     → (lines : List Line) → length (shownIn (Open s) work) ≤ length lines → length ls ≡ list (Open s) work lines .answer .count
 unfolding done
-list-true s work f ls t lines h = sym (lines-length t) ∙ sym (ap (λ r. r .answer .count) (all-show .0 s work f .lists lines h))
+list-true s work f ls t lines h = sym (lines-length t) ∙ sym (ap (λ r. r .answer .count) (session-shows s work f .lists lines h))
 
 -- and as many as reading reports
 pub read-files-true : (card : List ℕ) → shapeOk card ≡ true → sound card ≡ true → (ls : List Line) → Lines (shownBy card) ls → length ls ≡ read card .files
-read-files-true card p q ls t = sym (lines-length t) ∙ sym (all-show .1 card p q .counts .3)
+read-files-true card p q ls t = sym (lines-length t) ∙ sym (card-shows card p q .counts .3)
 
 -- the same for the list of a card
 pub read-list-true : (card : List ℕ) → shapeOk card ≡ true → sound card ≡ true → (ls : List Line) → Lines (shownBy card) ls
     → (lines : List Line) → length (shownBy card) ≤ length lines → length ls ≡ readList card lines .answer .count
 unfolding done
-read-list-true card p q ls t lines h = sym (lines-length t) ∙ sym (ap (λ r. r .answer .count) (all-show .1 card p q .lists lines h))
+read-list-true card p q ls t lines h = sym (lines-length t) ∙ sym (ap (λ r. r .answer .count) (card-shows card p q .lists lines h))
 
 -- a free count that is the same on every card
 pub free-fixed : (k : ℕ) → ¬ ((card : List ℕ) → shapeOk card ≡ true → sound card ≡ true
@@ -130,7 +131,7 @@ pub files-fixed : (k : ℕ) → ¬ ((card : List ℕ) → shapeOk card ≡ true 
 files-fixed k h =
     let r = card-possible synced reach-synced .1 in
     let x : k ≡ 0 = h (freshCard ten) (fresh-shape ten ten-ok) (fresh-sound ten ten-ok) ∙ ap length (fresh-none ten ten-ok) in
-    let y : k ≡ length (synced .last) = h (synced .card) (r .shape) (r .isSound) ∙ ap length (r .shows) in
+    let y : k ≡ length (synced .last) = h (synced .card) (reads-shape r) (reads-sound r) ∙ ap length (r .shows) in
     has-some (synced .last) a seven at-synced (sym y ∙ x)
 
 -- ---- "one whose sync writes the table sector first"

@@ -17,6 +17,7 @@ use Rattle.store.specs.Sync.{sync}
 use Rattle.promises.specs.PlainList.{shownIn}
 use Rattle.promises.specs.History.{written, play, allWritten, Left, World, byNumber, before, syncC, stepsOf, pendingIn, Reach, Reads}
 use Rattle.promises.specs.RowLaws.{clash}
+use Rattle.promises.specs.ReadsBy.{reads-sound}
 use Rattle.promises.specs.Play.{written-here, written-there}
 use Rattle.promises.specs.Demand.{demand-three, card-possible}
 use Rattle.promises.specs.TrialsCard.{newTable, tableLanded, table-unsound}
@@ -97,4 +98,4 @@ table-left =
 -- it is not sound, so it reads as neither list
 pub table-first-cut : ¬ StepsRead tableFirstOf
 table-first-cut h =
-    ⊎-elim (λ r. clash (r .isSound) table-unsound) (λ r. clash (r .isSound) table-unsound) (h putB reach-putB 1 tableLanded table-left)
+    ⊎-elim (λ r. clash (reads-sound r) table-unsound) (λ r. clash (reads-sound r) table-unsound) (h putB reach-putB 1 tableLanded table-left)

@@ -1,9 +1,9 @@
 -- One view that passes, as a plain list: names, get and list. Assumes nothing.
 use mathlib.Core.Path.{_≡_, refl, ap, _∙_}
-use mathlib.Core.Bool.{Bool, true, false}
-use mathlib.Core.List.{List, [], _++_}
+use mathlib.Core.Bool.{Bool, true, false, not}
+use mathlib.Core.List.{List, [], _∷_, _++_, List·Memᴰ, List·Memᴰ·head, List·Memᴰ·tail}
 use mathlib.Core.Option.{none, some}
-use mathlib.Core.Logic.{⊎-elim}
+use mathlib.Core.Logic.{⊎-elim, _≢_}
 use Prim.Native.Nat.{ℕ, suc, _*_, _≤_}
 use native.Mathlib.Omega.{arith}
 use borrow.Author.Tests.{eq-eqb, le-leb}
@@ -11,7 +11,9 @@ use lib.Dec.{leb}
 use lib.ListN.{length, drop, getD}
 use Rattle.words.specs.declared.Found.{Found}
 use Rattle.words.specs.declared.Found.the-variants.{At, Nowhere}
-use Rattle.words.specs.Lists.{every, pairwise, firstAt, splice}
+use Rattle.words.specs.Lists.{every, pairwise, firstAt, eqList, splice}
+use Rattle.words.specs.BoolLaws.{both, falsum}
+use Rattle.words.specs.EveryMore.{eqList-refl}
 use Rattle.words.specs.EveryLaws.{every-all}
 use Rattle.words.specs.FirstLaws.{found-at}
 use Rattle.sectors.specs.Sectors.{sec}
@@ -28,9 +30,11 @@ use Rattle.card.specs.declared.Line.{Line}
 use Rattle.card.specs.Plan.{Plan, guard, need, ended, doIt, refused, done, Got}
 use Rattle.card.specs.Files.{filesOf, contentOf, runOf, runAt, getPlan, getEnd, listPlan, listEnd}
 use Rattle.card.specs.SoundLaws.{View, entry-passes}
+use Rattle.card.specs.Means.{GoodName}
+use Rattle.card.specs.MeansParts.{name-means}
 use Rattle.promises.specs.PlainList.{Item, lookup}
-use Rattle.promises.specs.PlainCalls.{Names, plainGet, Lines, none-left, one-more}
-use Rattle.promises.specs.ListLaws.{isWide, content-length, listOf, list-good, list-told, list-alone, look-none, look-some}
+use Rattle.promises.specs.PlainCalls.{NoTwoAlike, Names, plainGet, Lines, none-left, one-more}
+use Rattle.promises.specs.ListLaws.{isWide, content-length, differ, listOf, list-good, list-told, list-alone, look-none, look-some}
 
 pub lines-length : {xs : List Item} {ls : List Line} → Lines xs ls → length xs ≡ length ls
 lines-length none-left = refl
@@ -38,6 +42,28 @@ lines-length (one-more t r) = ap suc (lines-length r)
 
 pub all-wide : (g : Geo) (img : List ℕ) → geoOk g ≡ true → length img ≡ 512 * g .s → every isWide (entriesOf g (sec img)) ≡ true
 all-wide g img ok l = every-all isWide (entriesOf g (sec img)) [] (λ j h. eq-eqb _ _ (entry-wide g img ok l j h))
+
+-- ---- names, by the tests
+
+all-good : (l : List Item) → every (λ x. goodName (x .name)) l ≡ true → (x : Item) → List·Memᴰ x l → GoodName (x .name)
+unfolding every
+all-good (y ∷ l) h x (List·Memᴰ·head e) = rw e (name-means (y .name) .0 (both (goodName (y .name)) (every (λ x. goodName (x .name)) l) h .0))
+all-good (y ∷ l) h x (List·Memᴰ·tail m) = all-good l (both (goodName (y .name)) (every (λ x. goodName (x .name)) l) h .1) x m
+
+differs : (y : Item) (l : List Item) → every (differ y) l ≡ true → (x : Item) → List·Memᴰ x l → y .name ≢ x .name
+unfolding every
+differs y (z ∷ l) h x (List·Memᴰ·head e) q =
+    let d : not (eqList (y .name) (z .name)) ≡ true = both (differ y z) (every (differ y) l) h .0 in
+    let s : y .name ≡ z .name = q ∙ ap (λ (i : Item). i .name) e in
+    let t : eqList (y .name) (z .name) ≡ true = rw s (eqList-refl (z .name)) in
+    let u : _≡_ {A = Bool} false true = rw t at d in
+    falsum u
+differs y (z ∷ l) h x (List·Memᴰ·tail m) q = differs y l (both (differ y z) (every (differ y) l) h .1) x m q
+
+all-differ : (l : List Item) → pairwise differ l ≡ true → NoTwoAlike l
+unfolding pairwise
+all-differ [] h = tt
+all-differ (y ∷ l) h = let (a, b) = both (every (differ y) l) (pairwise differ l) h in (differs y l a, all-differ l b)
 
 -- ---- one view that passes
 
@@ -47,7 +73,7 @@ module _ (g : Geo) (bound : ℕ) (tab tc img : List ℕ) (ok : geoOk g ≡ true)
   ps = entriesOf g (sec img)
 
   pub view-names : Names (listOf tab img ps)
-  view-names = record { good = list-good tab img g bound ps (U .entries) (all-wide g img ok sized); alone = list-alone tab img tc ps alone }
+  view-names = record { good = all-good _ (list-good tab img g bound ps (U .entries) (all-wide g img ok sized)); alone = all-differ _ (list-alone tab img tc ps alone) }
 
   pub view-told : Lines (listOf tab img ps) (filesOf tab ps)
   view-told = list-told tab img g bound ps (U .entries) (all-wide g img ok sized) sized
