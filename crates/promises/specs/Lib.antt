@@ -50,6 +50,8 @@ pub mod StepAll
 pub mod Within
 pub mod Demand
 pub mod Sharp
+pub mod Whole
+pub mod WholeProved
 pub mod CardRun
 pub mod Possible
 pub mod ReadsReads
