@@ -52,6 +52,9 @@ pub mod Demand
 pub mod Sharp
 pub mod Whole
 pub mod WholeProved
+pub mod Along
+pub mod AlongCalls
+pub mod AlongProved
 pub mod CardRun
 pub mod Possible
 pub mod ReadsReads
