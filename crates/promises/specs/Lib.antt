@@ -31,6 +31,7 @@ pub mod FitMount
 pub mod FitHistory
 pub mod Steady
 pub mod FitKept
+pub mod Places
 pub mod Leaves
 pub mod LeavesSync
 pub mod LeavesUnmount

@@ -1,0 +1,133 @@
+-- Which entry put and remove use, and where put's content goes: "A name present in either view of an entry uses that entry; otherwise the lowest entry absent in
+-- both views. Content goes to the lowest run of sectors free in both views before the call." Assumes nothing.
+use mathlib.Core.Path.{_≡_, refl, sym, _∙_}
+use mathlib.Core.Bool.{Bool, true, false, cond}
+use mathlib.Core.List.{List, [], _∷_}
+use mathlib.Core.Logic.{_⊎_, inl, inr, ⊎-elim}
+use Prim.Native.Nat.{ℕ, zero, suc, _+_, _≤_, _<_}
+use native.Mathlib.Omega.{arith}
+use lib.ListN.{length, getD}
+use Rattle.words.specs.declared.Found.{Found}
+use Rattle.words.specs.declared.Found.the-variants.{At, Nowhere}
+use Rattle.words.specs.Lists.{firstAt}
+use Rattle.words.specs.FirstLaws.{at-one, not-at, found-at, found-none}
+use Rattle.sectors.specs.Sectors.{sec}
+use Rattle.entries.specs.declared.Version.the-variants.{Absent}
+use Rattle.entries.specs.Entries.{shown, sectorsFor}
+use Rattle.directory.specs.Directory.{entriesOf, gone, named}
+use Rattle.directory.specs.NameLaws.{gone-true, gone-intro, named-true, named-intro}
+use Rattle.apages.specs.Bits.{bitAt}
+use Rattle.apages.specs.LowestLaws.{run-lowest, run-for-some}
+use Rattle.card.specs.Plan.{doIt}
+use Rattle.session.specs.declared.Opened.{Opened}
+use Rattle.session.specs.Views.{presentTable, cutTable, presentPage, cutPage}
+use Rattle.session.specs.FitLaws.{fit-inv}
+use Rattle.store.specs.Edit.{orElse, putPlace, placeIn, runIn, putPlan, removePlan}
+use Rattle.store.specs.RoomLaws.{alike}
+use Rattle.store.specs.Plans.{put-inv, remove-inv}
+use Rattle.promises.specs.Numbers.{Shows}
+use Rattle.promises.specs.RowLaws.{clash}
+
+-- ---- the statement
+
+-- entry i of a session's working image
+abbrev pub entryIn : Opened → List ℕ → ℕ → List ℕ
+entryIn s work i = getD (entriesOf (s .geo) (sec work)) i []
+
+-- it shows the name in either view
+abbrev pub HasName : Opened → List ℕ → List ℕ → ℕ → Type 0
+HasName s work n i = Shows (presentTable s (sec work)) n (entryIn s work i) ⊎ Shows (cutTable s (sec work)) n (entryIn s work i)
+
+-- it is absent in both views
+abbrev pub Vacant : Opened → List ℕ → ℕ → Type 0
+Vacant s work i = (shown (presentTable s (sec work)) (entryIn s work i) ≡ Absent) × (shown (cutTable s (sec work)) (entryIn s work i) ≡ Absent)
+
+-- the entry that put of n uses is j
+pub record PlaceIs (s : Opened) (work n : List ℕ) (j : ℕ) : Type 0 where
+  pub inside : j < length (entriesOf (s .geo) (sec work))
+  -- the name's own entry
+  pub own : (i : ℕ) → i < length (entriesOf (s .geo) (sec work)) → HasName s work n i → HasName s work n j
+  -- or, where no entry has the name, the lowest that is vacant
+  pub vacant : ¬ HasName s work n j → Vacant s work j
+  pub lowest : ¬ HasName s work n j → (i : ℕ) → i < j → ¬ Vacant s work i
+
+-- k sectors from t on are free in both views
+abbrev pub FreeFrom : Opened → List ℕ → ℕ → ℕ → Type 0
+FreeFrom s work k t = (n : ℕ) → t ≤ n → n < t + k → (bitAt (presentPage s (sec work)) n ≡ 0) × (bitAt (cutPage s (sec work)) n ≡ 0)
+
+abbrev pub PutPlaces : Type 0
+PutPlaces = (s : Opened) (work n d : List ℕ) (j a : ℕ) → putPlan s work n d ≡ doIt j a
+    → PlaceIs s work n j × (1 ≤ sectorsFor (length d) → (t : ℕ) → t < a → ¬ FreeFrom s work (sectorsFor (length d)) t)
+
+abbrev pub RemovePlaces : Type 0
+RemovePlaces = (s : Opened) (work n : List ℕ) (j a : ℕ) → removePlan s work n ≡ doIt j a
+    → (j < length (entriesOf (s .geo) (sec work))) × Shows (presentTable s (sec work)) n (entryIn s work j)
+
+-- ---- proved
+
+-- nothing before the first that is found passes
+before-first : {A : Type 0} (f : A → Bool) (d : A) (i m : ℕ) (l : List A) → firstAt f i l ≡ At m → (j : ℕ) → i + j < m → f (getD l j d) ≡ false
+unfolding firstAt
+before-first f d i m [] h j q = not-at (sym h)
+before-first f d i m (x ∷ l) h j q = go (f x) refl h j q (before-first f d (suc i) m l)
+  where
+    go : (b : Bool) → f x ≡ b → cond b (At i) (firstAt f (suc i) l) ≡ At m → (j : ℕ) → i + j < m
+        → (firstAt f (suc i) l ≡ At m → (j : ℕ) → suc i + j < m → f (getD l j d) ≡ false) → f (getD (x ∷ l) j d) ≡ false
+    go true e h j q ih = absurd (omega (arith, at-one h, q))
+    go false e h zero q ih = e
+    go false e h (suc j) q ih = ih h j (omega arith)
+
+module _ (s : Opened) (work n : List ℕ) where
+  abbrev tp : List ℕ
+  tp = presentTable s (sec work)
+
+  abbrev tc : List ℕ
+  tc = cutTable s (sec work)
+
+  abbrev es : List (List ℕ)
+  es = entriesOf (s .geo) (sec work)
+
+  -- the test, and what it says
+  named-has : (i : ℕ) → named tp tc n (getD es i []) ≡ true → HasName s work n i
+  named-has i t = let (a, b) = named-true tp tc n (getD es i []) t in ⊎-elim (λ q. inl (q, b)) (λ q. inr (q, b)) a
+
+  has-named : (i : ℕ) → HasName s work n i → named tp tc n (getD es i []) ≡ true
+  has-named i (inl q) = named-intro tp tc n (getD es i []) (inl (q .0)) (q .1)
+  has-named i (inr q) = named-intro tp tc n (getD es i []) (inr (q .0)) (q .1)
+
+  place-is : (j : ℕ) → placeIn s work n ≡ At j → PlaceIs s work n j
+  unfolding placeIn putPlace
+  place-is j e = go (firstAt (named tp tc n) 0 es) refl e
+    where
+      go : (o : Found) → firstAt (named tp tc n) 0 es ≡ o → orElse o (firstAt (gone tp tc) 0 es) ≡ At j → PlaceIs s work n j
+      go (At i) f h =
+          let y : i ≡ j = (unfold orElse in at-one h) in
+          let (l, t) = found-at (named tp tc n) [] es j (rw y at f) in
+          let own : HasName s work n j = named-has j t in
+          record { inside = l; own = λ i l q. own; vacant = λ o. absurd (o own); lowest = λ o. absurd (o own) }
+      go Nowhere f h =
+          let v : firstAt (gone tp tc) 0 es ≡ At j = unfold orElse in h in
+          let (l, t) = found-at (gone tp tc) [] es j v in
+          record {
+            inside = l;
+            own = λ i l q. absurd (clash (has-named i q) (found-none (named tp tc n) [] 0 es f i l));
+            vacant = λ o. gone-true tp tc (getD es j []) t;
+            lowest = λ o i q w. clash (gone-intro tp tc (getD es i []) (w .0) (w .1)) (before-first (gone tp tc) [] 0 j es v i (omega arith));
+          }
+
+pub put-places : PutPlaces
+put-places s work n d j a h = (
+  place-is s work n j (put-inv s work n d j a h .entry),
+  λ k t l f. low (put-inv s work n d j a h .run) k t l f,
+)
+  where
+    low : runIn s work (sectorsFor (length d)) ≡ At a → 1 ≤ sectorsFor (length d) → (t : ℕ) → t < a → ¬ FreeFrom s work (sectorsFor (length d)) t
+    low e k t l f =
+        run-lowest (sectorsFor (length d)) (presentPage s (sec work)) (cutPage s (sec work)) (omega arith) (alike s work (fit-inv s work (put-inv s work n d j a h .fit))) a
+        (sym (run-for-some (sectorsFor (length d)) _ _ (λ z. omega arith)) ∙ (unfold runIn in e)) t l f
+
+pub remove-places : RemovePlaces
+remove-places s work n j a h =
+    let (l, t) = found-at (named (presentTable s (sec work)) (presentTable s (sec work)) n) [] (entriesOf (s .geo) (sec work)) j (remove-inv s work n j a h .entry) in
+    let (x, y) = named-true (presentTable s (sec work)) (presentTable s (sec work)) n (entryIn s work j) t in
+    (l, (⊎-elim (λ q. q) (λ q. q) x, y))
