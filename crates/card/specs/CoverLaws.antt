@@ -2,7 +2,7 @@
 use mathlib.Core.Path.{_≡_, refl}
 use mathlib.Core.Logic.{⊎-elim}
 use mathlib.Core.Bool.{true}
-use mathlib.Core.List.{List, []}
+use mathlib.Core.List.{List, [], _∷_}
 use Prim.Native.Nat.{ℕ, suc, _+_, _≤_, _<_}
 use native.Mathlib.Numerals.{add-one}
 use native.Mathlib.Omega.{arith}
@@ -21,6 +21,7 @@ use Rattle.entries.specs.Entries.{versionOf, shown, shownBytes, sectorsFor, run
 use Rattle.entries.specs.PassLaws.{passes, run-is, version-run}
 use Rattle.card.specs.declared.Line.{Line}
 use Rattle.card.specs.Files.{consFile, filesOf, cover, runOf}
+use Rattle.card.specs.FileLaws.{Within, none, within-cons}
 
 abbrev pub startOf : Version → ℕ
 startOf v = runOf v .start .0
@@ -54,9 +55,19 @@ RunsOk g tab es = (j : ℕ) → j < length es → runOk g (runOf (shown tab (get
 pub entries-runs : (g : Geo) (bound : ℕ) (tab : List ℕ) (es : List (List ℕ)) → every (entryOk g bound tab) es ≡ true → RunsOk g tab es
 entries-runs g bound tab es h j l = shown-run g bound tab (getD es j []) (every-at (entryOk g bound tab) es j [] l h)
 
+-- the files of such entries lie inside the data
+pub runs-within : (g : Geo) (tab : List ℕ) (es : List (List ℕ)) → RunsOk g tab es → Within g (filesOf tab es)
+unfolding filesOf runOf
+runs-within g tab [] runs = none
+runs-within g tab (p ∷ es) runs =
+    within-cons g p (shown tab p) (filesOf tab es) (λ r e. run-is g r (go (shown tab p) e (runs 0 (omega arith)))) (runs-within g tab es (λ j l. runs (suc j) (omega arith)))
+  where
+    go : (v : Version) {r : Run} → v ≡ Present r → runOk g (runOf v) ≡ true → runOk g r ≡ true
+    go v {r} e h = rw e at h
+
 -- ---- the files of the entries from j on
 
-cover-cons : (p : List ℕ) (v : Version) (r : List Line) (n : ℕ) → cover (consFile p v r) n ≡ inRun (startOf v) (sectorsIn v) n + cover r n
+pub cover-cons : (p : List ℕ) (v : Version) (r : List Line) (n : ℕ) → cover (consFile p v r) n ≡ inRun (startOf v) (sectorsIn v) n + cover r n
 unfolding cover consFile runOf
 cover-cons p Absent r n =
     ⊎-elim (λ w. omega arith) (⊎-elim (λ w. absurd (omega arith)) (λ w. omega arith)) (place 0 0 n)

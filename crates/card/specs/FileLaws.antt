@@ -46,7 +46,7 @@ pub data Within (g : Geo) : List Line → Type 0 where
   none : Within g []
   more : {f : Line} {fs : List Line} → RunIs g (f .run) → Within g fs → Within g (f ∷ fs)
 
-within-cons : (g : Geo) (p : List ℕ) (v : Version) (fs : List Line) → ((r : Run) → v ≡ Present r → RunIs g r) → Within g fs → Within g (consFile p v fs)
+pub within-cons : (g : Geo) (p : List ℕ) (v : Version) (fs : List Line) → ((r : Run) → v ≡ Present r → RunIs g r) → Within g fs → Within g (consFile p v fs)
 unfolding consFile
 within-cons g p Absent fs h w = w
 within-cons g p (Present r) fs h w = more (h r refl) w

@@ -30,8 +30,8 @@ module _ (g : Geo) (ok : geoOk g ≡ true) where
 
   pub page-good : pageOk g (cover []) (freshPage g) ≡ true
   page-good =
-      bits-page g (cover []) (freshPage g) (L .sHigh) (page-length g) (λ j b. fresh-bytes g j)
-      (λ n h. fresh-bit g (record { s = L .sHigh; t = L .tHigh; d = L .dHigh }) n h ∙ (unfold wanted cover in refl))
+      bits-page g (cover []) (freshPage g) (omega (arith, L .sHigh, page-length g)) (λ j b. fresh-bytes g j)
+      (λ n h. fresh-bit g (record { s = L .sHigh; t = L .tHigh; d = L .dHigh }) n (omega (arith, page-length g)) ∙ (unfold wanted cover in refl))
 
   -- ---- the page
 

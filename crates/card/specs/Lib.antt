@@ -16,9 +16,9 @@ pub mod AgreeLaws
 pub mod MakeLaws
 pub mod BuiltLaws
 pub mod PageIs
-pub mod Marks
 pub mod CoverLaws
-pub mod MarkLaws
+pub mod Tally
+pub mod TallyLaws
 pub mod LineLaws
 pub mod ViewLaws
 pub mod SoundTests

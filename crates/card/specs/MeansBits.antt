@@ -170,7 +170,7 @@ module _ (g : Geo) (tab img : List ℕ) (ok : geoOk g ≡ true) (wide : length (
           omega arith
 
   pub says-page : Bits g tab img → OneFile g tab img → Bytes g tab img → pageOk g held page ≡ true
-  says-page bits one bytes = bits-page g held page (L .sHigh) wide bytes (λ n l. go n l (in-data g n))
+  says-page bits one bytes = bits-page g held page (omega (arith, L .sHigh, wide)) bytes (λ n l. go n (omega (arith, wide)) (in-data g n))
     where
       go : (n : ℕ) → n < 4096 → Dec (InData g n) → bitAt page n ≡ wanted g held n
       go n l (no o) = bits n l .1 (out (decLt n (gF g))) ∙ sym (wanted-out g held n o)
