@@ -16,7 +16,7 @@ use Rattle.words.specs.BoolLaws.{both, join}
 use Rattle.words.specs.Bytes.{wordAt}
 use Rattle.words.specs.WordLaws.{wordAt-getD}
 use Rattle.apages.specs.Bits.{digit, bitAt, clearBits}
-use Rattle.apages.specs.BitLaws.{digit-suc, bit-lt}
+use Rattle.apages.specs.BitLaws.{digit-suc, digit-full, bit-lt}
 use Rattle.apages.specs.RunLaws.{clear-total}
 use Rattle.apages.specs.Ones.{word64At, onesOf, setBits, allSet}
 
@@ -113,6 +113,17 @@ pub all-set : (m : List ℕ) (k a : ℕ) → ((n : ℕ) → a ≤ n → n < a + 
 unfolding allSet
 all-set m zero a h = refl
 all-set m (suc k) a h = join _ _ (eq-eqb (bitAt m a) 1 (h a (omega arith) (omega arith))) (all-set m k (suc a) (λ n x y. h n (omega arith) (omega arith)))
+
+-- a full byte's bits, and one bit that is set or none
+pub full-set : (m : List ℕ) (n : ℕ) → n % 8 ≡ 0 → getD m (n / 8) 0 ≡ 255 → allSet m n 8 ≡ true
+unfolding bitAt
+full-set m n z h =
+    all-set m 8 n
+    (λ i x y. let e : i / 8 ≡ n / 8 = omega arith in
+    rw (e, h) (digit-full (i % 8) (omega arith)))
+
+pub bit-set : (m : List ℕ) (n : ℕ) {b : ℕ} → b ≡ bitAt m n → allSet m n b ≡ true
+bit-set m n {b} e = all-set m b n (λ i x y. let q : i ≡ n = omega (arith, bit-lt m n) in rw q (omega (arith, bit-lt m n)))
 
 -- the answer after the first r of a run, which are set
 all-skip : (m : List ℕ) (r a k : ℕ) → r ≤ k → allSet m a r ≡ true → allSet m a k ≡ allSet m (a + r) (k - r)

@@ -19,6 +19,7 @@ pub mod PageIs
 pub mod CoverLaws
 pub mod Tally
 pub mod TallyLaws
+pub mod TallyTests
 pub mod LineLaws
 pub mod ViewLaws
 pub mod SoundTests

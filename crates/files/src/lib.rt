@@ -164,7 +164,7 @@ pub fn clear_in(card: &[u8], g: Geo, v: View) -> u32
     let n = page_at(card, g, v);
     let at = 512 * (n.0 as usize);
     let end = at + 512;
-    apages::count_clear(&card[at..end])
+    ones::count_clear(&card[at..end])
 }
 
 // Gets the file of entry j: number 10, or 0.

@@ -1,4 +1,4 @@
-// When a card is sound: its shape, its table, its views, and the bitmap against the files with a scratch map of one bit a sector.
+// When a card is sound: its shape, its table and its views.
 ghost use mathlib.Core.Path.{_≡_};
 ghost use mathlib.Core.Bool.{true};
 ghost use Prim.Native.Nat.{_+_};
@@ -29,7 +29,7 @@ pub fn view_ok(card: &[u8], g: Geo, v: View, bound: u32) -> bool
     let n = page_at(card, g, v);
     let at = 512 * (n.0 as usize);
     let end = at + 512;
-    marks::page_ok(card, g, v, &card[at..end])
+    tally::page_ok(card, g, v, &card[at..end])
 }
 
 // Whether an image is sound by a geometry.

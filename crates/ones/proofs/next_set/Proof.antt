@@ -1,0 +1,38 @@
+-- A full byte, or one bit. Assumes nothing.
+use Prim.Native.Nat.{_+_, _/_, _%_}
+use native.Mathlib.Omega.{arith}
+use borrow.Author.Needs.{needs}
+use borrow.Author.Tests.{eqb-true, leb-true}
+use denote.Ref.{now}
+use lib.Dec.{eqb, leb}
+use lib.ListN.{getD}
+use Rattle.words.specs.BoolLaws.{both}
+use Rattle.apages.specs.OnesLaws.{full-set, bit-set}
+use Rattle.ones.proofs.next_set.Statement.{statement}
+use Rattle.ones.proofs.next_set.Tie as tie
+
+add-if1 : tie.Need-add-if1
+add-if1 c = search needs
+
+shared-slice-read-if1 : tie.Need-shared-slice-read-if1
+shared-slice-read-if1 c = search needs
+
+returns : tie.Need-returns
+returns c =
+    let a = c .before .before .before .args in
+    let (u, z) = both _ (eqb (getD (now (a .p)) (a .n / 8) 0) 255) (c .if1 .taken) in
+    let (x, y) = both (eqb (a .n % 8) 0) (leb (a .n + 8) (a .end)) u in
+    (full-set _ _ (eqb-true _ _ x) (eqb-true _ _ z), leb-true _ _ y, λ e. absurd (omega arith))
+
+bit-requires : tie.Need-bit-requires
+bit-requires c κs = search needs
+
+cast-result : tie.Need-cast-result
+cast-result c = search needs
+
+returns-2 : tie.Need-returns-2
+returns-2 c = (bit-set _ _ (c .bit .ensures .0), omega arith, λ e. omega (arith, c .bit .ensures .0))
+
+pub next-set-spec : {M : Type 1} → statement M
+next-set-spec =
+    tie.close (tie.spec add-if1 shared-slice-read-if1 returns bit-requires cast-result returns-2)

@@ -1,0 +1,120 @@
+// The bitmap's rule, tested with no map: from the ones of the bitmap's words and the files' own runs.
+ghost use mathlib.Core.Path.{_≡_};
+ghost use Prim.Native.Nat.{_+_, _*_, _≤_};
+ghost use lib.ListN.{length, drop};
+ghost use Rattle.words.specs.Lists.{every, pairwise};
+ghost use Rattle.sectors.specs.Sectors.{sec};
+ghost use Rattle.counts.specs.Stamps.{tableIn};
+ghost use Rattle.counts.specs.TableLaws.{InLimits, LaidOut};
+ghost use Rattle.directory.specs.Directory.{entriesOf};
+ghost use Rattle.apages.specs.Runs.{pageOk};
+ghost use Rattle.card.specs.Files.{filesOf, cover, sectorsOf};
+ghost use Rattle.card.specs.CoverLaws.{RunsOk};
+ghost use Rattle.card.specs.Tally.{heldBy, partedFrom, partedIn, fixedBits};
+use counts::Geo;
+use counts::View;
+use entries::Run;
+use files::run_at;
+
+// How many of n bits lie below F or from S up.
+fn fixed_bits(g: Geo, n: u32) -> u32
+    requires { ⌜ InLimits g × (g .s ≤ n) ⌝ }
+    ensures { λ r. ⌜ (r ≡ fixedBits g n) × (r ≤ n) ⌝ }
+{
+    let first = g.t + 4 + g.d;
+    if g.s < first {
+        return n;
+    }
+    n - (g.s - first)
+}
+
+// The sectors of all files that a view shows.
+fn sectors_in(card: &[u8], g: Geo, v: View) -> u32
+    requires { ⌜ LaidOut g (now card) × RunsOk g (tableIn g v (sec (now card))) (entriesOf g (sec (now card))) ⌝ }
+    ensures { λ r. ⌜ (r ≡ sectorsOf (filesOf (tableIn g v (sec (now (card .entry)))) (entriesOf g (sec (now (card .entry)))))) × (r ≤ 16777216) ⌝ }
+{
+    let mut sum: u32 = 0;
+    let mut j = 0;
+    while j < 4 * (g.d as usize) {
+        let r = run_at(card, g, v, j);
+        sum += r.sectors;
+        j += 1;
+    }
+    sum
+}
+
+// Whether the bits of every shown run are set in a page.
+fn runs_set(card: &[u8], g: Geo, v: View, p: &[u8]) -> bool
+    requires { ⌜ LaidOut g (now card) × ((length (now p) ≡ 512) × RunsOk g (tableIn g v (sec (now card))) (entriesOf g (sec (now card)))) ⌝ }
+    ensures { λ r. ⌜ r ≡ every (heldBy (tableIn g v (sec (now (card .entry)))) (now (p .entry))) (entriesOf g (sec (now (card .entry)))) ⌝ }
+{
+    let mut j = 0;
+    while j < 4 * (g.d as usize) {
+        let r = run_at(card, g, v, j);
+        let ok = ones::run_set(p, r.start.0 as usize, r.sectors as usize);
+        if !ok {
+            return false;
+        }
+        j += 1;
+    }
+    true
+}
+
+// Whether a run meets none of those that the entries from i on show.
+fn parted_from(card: &[u8], g: Geo, v: View, r: Run, i: usize) -> bool
+    requires { ⌜ LaidOut g (now card) × ((r .start .0 + r .sectors ≤ g .s) × ((i ≤ 4 * g .d) × RunsOk g (tableIn g v (sec (now card))) (entriesOf g (sec (now card))))) ⌝ }
+    ensures { λ b. ⌜ b ≡ every (partedFrom (tableIn g v (sec (now (card .entry)))) r) (drop i (entriesOf g (sec (now (card .entry))))) ⌝ }
+{
+    let end = r.start.0 + r.sectors;
+    let mut j = i;
+    while j < 4 * (g.d as usize) {
+        let q = run_at(card, g, v, j);
+        let ok = (end <= q.start.0) | (q.start.0 + q.sectors <= r.start.0);
+        if !ok {
+            return false;
+        }
+        j += 1;
+    }
+    true
+}
+
+// Whether no two shown runs meet. From the last entry down: the files of the entries before `rest` start at `low` or past it, so a run that ends
+// there is compared with those from `rest` on only, and where the files lie in the order of their entries with none.
+fn runs_apart(card: &[u8], g: Geo, v: View) -> bool
+    requires { ⌜ LaidOut g (now card) × RunsOk g (tableIn g v (sec (now card))) (entriesOf g (sec (now card))) ⌝ }
+    ensures { λ r. ⌜ r ≡ pairwise (partedIn (tableIn g v (sec (now (card .entry))))) (entriesOf g (sec (now (card .entry)))) ⌝ }
+{
+    let mut i = 4 * (g.d as usize);
+    let mut rest = i;
+    let mut low = g.s;
+    while 0 < i {
+        i -= 1;
+        let r = run_at(card, g, v, i);
+        if r.sectors == 0 {
+            continue;
+        }
+        if low < r.start.0 + r.sectors {
+            rest = i + 1;
+        }
+        if !parted_from(card, g, v, r, rest) {
+            return false;
+        }
+        low = r.start.0;
+    }
+    true
+}
+
+// Whether a page has set exactly the bits below F, from S up, and of the sectors of the shown files, each in one file; for runs that are well formed.
+pub fn page_ok(card: &[u8], g: Geo, v: View, p: &[u8]) -> bool
+    requires { ⌜ LaidOut g (now card) × ((length (now p) ≡ 512) × RunsOk g (tableIn g v (sec (now card))) (entriesOf g (sec (now card)))) ⌝ }
+    ensures { λ r. ⌜ r ≡ pageOk g (cover (filesOf (tableIn g v (sec (now (card .entry)))) (entriesOf g (sec (now (card .entry)))))) (now (p .entry)) ⌝ }
+{
+    let first = (g.t + 4 + g.d) as usize;
+    let last = g.s as usize;
+    let low = ones::run_set(p, 0, first);
+    let high = ones::run_set(p, last, 8 * p.len() - last);
+    let set = runs_set(card, g, v, p);
+    let apart = runs_apart(card, g, v);
+    let count = fixed_bits(g, 8 * (p.len() as u32)) + sectors_in(card, g, v);
+    low & high & set & apart & (ones::set_bits(p) == count)
+}
