@@ -222,3 +222,10 @@ tally-page g tab es m first top bytes runs = go (tallyOk g tab es m) (pageOk g (
     go false false e d = refl
     go true false e d = sym (bits-page g _ m top (λ j l. bytes j) (tally-bits g tab es m first top runs (tallied g tab es m first top runs e))) ∙ d
     go false true e d = sym e ∙ tally-all g tab es m first top runs (bits-tally g tab es m first top runs (page-bits g _ m top d))
+
+-- the tests as code makes them
+pub tally-here : (g : Geo) (tab : List ℕ) (es : List (List ℕ)) (m : List ℕ) → gF g ≤ 8 * length m → g .s ≤ 8 * length m → ((j : ℕ) → getD m j 0 < 256) → RunsOk g tab es
+    → {a b c d : Bool} {n k s : ℕ} → a ≡ allSet m 0 (gF g) → b ≡ allSet m (g .s) (8 * length m - g .s) → c ≡ every (heldBy tab m) es → d ≡ pairwise (partedIn tab) es
+    → n ≡ setBits m → k ≡ fixedBits g (8 * length m) → s ≡ sectorsOf (filesOf tab es) → (a && b && c && d && eqb n (k + s)) ≡ pageOk g (cover (filesOf tab es)) m
+unfolding tallyOk
+tally-here g tab es m first top bytes runs e₁ e₂ e₃ e₄ e₅ e₆ e₇ = rw (e₁, e₂, e₃, e₄, e₅, e₆, e₇) (tally-page g tab es m first top bytes runs)

@@ -20,10 +20,11 @@ use Rattle.entries.specs.declared.Version.{Version}
 use Rattle.entries.specs.declared.Version.the-variants.{Absent, Present}
 use Rattle.entries.specs.Entries.{shown}
 use Rattle.entries.specs.PassLaws.{RunIs, run-is, run-room}
+use Rattle.apages.specs.Ones.{allSet}
 use Rattle.card.specs.declared.Line.{Line}
 use Rattle.card.specs.Files.{consFile, filesOf, sectorsOf, runOf}
 use Rattle.card.specs.CoverLaws.{RunsOk}
-use Rattle.card.specs.Tally.{parted, partedFrom, partedIn}
+use Rattle.card.specs.Tally.{isHeld, parted, heldBy, partedFrom, partedIn}
 
 -- ---- the sectors of all files, entry by entry
 
@@ -52,10 +53,19 @@ behind : (r q : Run) → q .start .0 + q .sectors ≤ r .start .0 → parted r q
 unfolding parted
 behind r q h = or-intro (leb (r .start .0 + r .sectors) (q .start .0)) _ (inr (le-leb _ _ h))
 
+-- the tests of one run, as code makes them
+pub held-here : (tab m p : List ℕ) {r : Run} {b : Bool} → r ≡ runOf (shown tab p) → b ≡ allSet m (r .start .0) (r .sectors) → b ≡ heldBy tab m p
+unfolding isHeld
+held-here tab m p e h = h ∙ rw e
+
 pub parted-here : (tab : List ℕ) (r : Run) (p : List ℕ) {q : Run} {end : ℕ} {b : Bool} → end ≡ r .start .0 + r .sectors → q ≡ runOf (shown tab p)
     → b ≡ (leb end (q .start .0) || leb (q .start .0 + q .sectors) (r .start .0)) → b ≡ partedFrom tab r p
 unfolding parted
 parted-here tab r p e f h = h ∙ rw (e, f)
+
+-- the files of the entries from i to e start at `low` or past it
+abbrev pub Rising : List ℕ → List (List ℕ) → ℕ → ℕ → ℕ → Type 0
+Rising tab es i e low = (j : ℕ) → i ≤ j → j < e → 1 ≤ runOf (shown tab (getD es j [])) .sectors → low ≤ runOf (shown tab (getD es j [])) .start .0
 
 module _ (g : Geo) (tab : List ℕ) (es : List (List ℕ)) (runs : RunsOk g tab es) where
   abbrev run : ℕ → Run
@@ -68,16 +78,12 @@ module _ (g : Geo) (tab : List ℕ) (es : List (List ℕ)) (runs : RunsOk g tab 
   pub run-below : (j : ℕ) {r : Run} → j < length es → r ≡ run j → r .start .0 + r .sectors ≤ g .s
   run-below j l e = rw e (run-room g (run j) (well j l))
 
-  -- the files of the entries from i to e start at `low` or past it
-  abbrev pub Rising : ℕ → ℕ → ℕ → Type 0
-  Rising i e low = (j : ℕ) → i ≤ j → j < e → 1 ≤ run j .sectors → low ≤ run j .start .0
-
   -- an entry whose run meets no later one
   join-row : (i : ℕ) → i < length es → every (partedFrom tab (run i)) (drop (i + 1) es) ≡ true → pairwise (partedIn tab) (drop (i + 1) es) ≡ true → pairwise (partedIn tab) (drop i es) ≡ true
   join-row i l a b = pair-next (partedIn tab) es i [] l ∙ rw (a, b)
 
   -- a run that ends at `low` or before meets none of theirs
-  low-row : (i e low : ℕ) (r : Run) → i ≤ e → Rising i e low → r .start .0 + r .sectors ≤ low → every (partedFrom tab r) (drop i es) ≡ every (partedFrom tab r) (drop e es)
+  low-row : (i e low : ℕ) (r : Run) → i ≤ e → Rising tab es i e low → r .start .0 + r .sectors ≤ low → every (partedFrom tab r) (drop i es) ≡ every (partedFrom tab r) (drop e es)
   low-row i e low r h up k =
       let q : i + (e - i) ≡ e = omega arith in
       rw q at (every-from (partedFrom tab r) es [] (e - i) i (λ j a b c. one j c (up j a (omega arith)) (decLe 1 (run j .sectors))))
@@ -86,27 +92,28 @@ module _ (g : Geo) (tab : List ℕ) (es : List (List ℕ)) (runs : RunsOk g tab 
       one j c u (yes d) = before r (run j) (omega (arith, u d))
       one j c u (no d) = behind r (run j) (omega (arith, well j c .empty (omega arith)))
 
-  module _ (i : ℕ) (l : i < length es) (r : Run) (here : r ≡ run i) where
+  -- one turn of the loop: entry i, and k is the next
+  module _ (i k : ℕ) (next : k ≡ i + 1) (l : i < length es) (r : Run) (here : r ≡ run i) (done : pairwise (partedIn tab) (drop k es) ≡ true) where
     -- an entry without sectors
-    pub empty-row : r .sectors ≡ 0 → pairwise (partedIn tab) (drop (i + 1) es) ≡ true → pairwise (partedIn tab) (drop i es) ≡ true
-    empty-row z h =
+    pub empty-row : r .sectors ≡ 0 → pairwise (partedIn tab) (drop i es) ≡ true
+    empty-row z =
         let e : run i .sectors ≡ 0 = rw (← here) z in
-        join-row i l (every-all (partedFrom tab (run i)) (drop (i + 1) es) [] (λ j k. before (run i) _ (omega (arith, well i l .empty e)))) h
+        join-row i l (every-all (partedFrom tab (run i)) (drop (i + 1) es) [] (λ j m. before (run i) _ (omega (arith, well i l .empty e)))) (rw (← next) done)
 
-    pub empty-rising : (e low : ℕ) → r .sectors ≡ 0 → Rising (i + 1) e low → Rising i e low
+    pub empty-rising : (e low : ℕ) → r .sectors ≡ 0 → Rising tab es k e low → Rising tab es i e low
     empty-rising e low z up j a b c = go (ℕ-discrete i j)
       where
         go : Dec (i ≡ j) → low ≤ run j .start .0
         go (yes q) = let x : run j .sectors ≡ 0 = rw (← q, ← here) z in absurd (omega arith)
         go (no q) = up j (omega arith) b c
 
-    -- where to go on: behind the entries whose files all start past this one's end, or with the next entry
-    module _ (e e′ low : ℕ) (le : i + 1 ≤ e) (up : Rising (i + 1) e low)
+    -- where the comparing starts: behind the entries whose files all lie past this run, or with the next entry
+    module _ (e e′ low : ℕ) (le : k ≤ e) (up : Rising tab es k e low)
         (way : ((low < r .start .0 + r .sectors) × (e′ ≡ i + 1)) ⊎ ((r .start .0 + r .sectors ≤ low) × (e′ ≡ e))) where
       row : every (partedFrom tab r) (drop (i + 1) es) ≡ every (partedFrom tab r) (drop e′ es)
       row =
-          ⊎-elim (λ w. ap (λ (k : ℕ). every (partedFrom tab r) (drop k es)) (sym (w .1)))
-          (λ w. low-row (i + 1) e low r le up (w .0) ∙ ap (λ (k : ℕ). every (partedFrom tab r) (drop k es)) (sym (w .1))) way
+          ⊎-elim (λ w. rw (w .1))
+          (λ w. rw (w .1, ← next) (low-row k e low r le up (w .0))) way
 
       pub row-stop : {b : Bool} → b ≡ every (partedFrom tab r) (drop e′ es) → not b ≡ true → false ≡ pairwise (partedIn tab) es
       row-stop {b} f n = go (pairwise (partedIn tab) es) refl
@@ -118,10 +125,10 @@ module _ (g : Geo) (tab : List ℕ) (es : List (List ℕ)) (runs : RunsOk g tab 
           go false q = refl
           go true q = sym no-row ∙ both _ _ (sym (pair-next (partedIn tab) es i [] l) ∙ pair-rest (partedIn tab) i es q) .0
 
-      pub row-go : {b : Bool} → b ≡ every (partedFrom tab r) (drop e′ es) → not b ≡ false → pairwise (partedIn tab) (drop (i + 1) es) ≡ true → pairwise (partedIn tab) (drop i es) ≡ true
-      row-go {b} f n h = join-row i l (rw (← here) (row ∙ sym f ∙ not-false b n)) h
+      pub row-go : {b : Bool} → b ≡ every (partedFrom tab r) (drop e′ es) → not b ≡ false → pairwise (partedIn tab) (drop i es) ≡ true
+      row-go {b} f n = join-row i l (rw (← here) (row ∙ sym f ∙ not-false b n)) (rw (← next) done)
 
-      pub row-rising : Rising i e′ (r .start .0)
+      pub row-rising : Rising tab es i e′ (r .start .0)
       row-rising j a b c = go (ℕ-discrete i j)
         where
           go : Dec (i ≡ j) → r .start .0 ≤ run j .start .0
