@@ -1,6 +1,6 @@
 -- Laws of the ones of a map: a word's are those of its bytes, ones and clear bits make the whole, and a run of bits that is set. Assumes nothing.
 use mathlib.Core.Path.{_≡_, refl, sym, ap, _∙_}
-use mathlib.Core.Bool.{Bool, true, false, _&&_}
+use mathlib.Core.Bool.{true, false}
 use mathlib.Core.List.{List}
 use Prim.Native.Nat.{ℕ, zero, suc, _+_, _-_, _*_, _/_, _%_, _^_, _≤_, _<_}
 use native.Mathlib.Decide.{ℕ-discrete}
@@ -11,7 +11,7 @@ use lib.Count.{ones, ones-step, ones-cat}
 use lib.Dec.{eqb}
 use lib.ListN.{length, getD}
 use Rattle.sums.specs.Sums.{total}
-use Rattle.sums.specs.SumLaws.{total-none, total-add, total-same, total-split, total-front, total-one}
+use Rattle.sums.specs.SumLaws.{total-add, total-same, total-split, total-front, total-one}
 use Rattle.words.specs.BoolLaws.{both, join}
 use Rattle.words.specs.Bytes.{wordAt}
 use Rattle.words.specs.WordLaws.{wordAt-getD}

@@ -40,7 +40,7 @@ zeros m = replicate m 0
 abbrev full : ℕ → List ℕ
 full m = replicate m 255
 
-pub putBit-bytes : (p : List ℕ) (n v : ℕ) → v < 2 → ((j : ℕ) → getD p j 0 < 256) → (j : ℕ) → getD (putBit p n v) j 0 < 256
+putBit-bytes : (p : List ℕ) (n v : ℕ) → v < 2 → ((j : ℕ) → getD p j 0 < 256) → (j : ℕ) → getD (putBit p n v) j 0 < 256
 unfolding putBit
 putBit-bytes p n v two h j = go (ℕ-discrete j (n / 8)) (decLt (n / 8) (length p))
   where
@@ -52,7 +52,7 @@ putBit-bytes p n v two h j = go (ℕ-discrete j (n / 8)) (decLt (n / 8) (length 
     go (yes e) (no l) = rw (set-out p (n / 8) x (omega arith)) (h j)
     go (no e) d = rw (getD-set-other p (n / 8) j x 0 e) (h j)
 
-pub setRun-bytes : (p : List ℕ) (a k v : ℕ) → v < 2 → ((j : ℕ) → getD p j 0 < 256) → (j : ℕ) → getD (setRun p a k v) j 0 < 256
+setRun-bytes : (p : List ℕ) (a k v : ℕ) → v < 2 → ((j : ℕ) → getD p j 0 < 256) → (j : ℕ) → getD (setRun p a k v) j 0 < 256
 unfolding setRun
 setRun-bytes p a zero v two h j = h j
 setRun-bytes p a (suc k) v two h j = putBit-bytes (setRun p a k v) (a + k) v two (setRun-bytes p a k v two h) j
@@ -84,7 +84,7 @@ full-bit m n h = rw (full-at m (n / 8) (omega arith)) (digit-full (n % 8) (omega
 -- ---- "the bits below F, from S up"
 
 -- a sector is below F, from S up, or one of the data
-pub side : (g : Geo) (n : ℕ) → ((n < gF g) × (outside g n ≡ true)) ⊎ (((gF g ≤ n) × (g .s ≤ n) × (outside g n ≡ true)) ⊎ ((gF g ≤ n) × (n < g .s) × (outside g n ≡ false)))
+side : (g : Geo) (n : ℕ) → ((n < gF g) × (outside g n ≡ true)) ⊎ (((gF g ≤ n) × (g .s ≤ n) × (outside g n ≡ true)) ⊎ ((gF g ≤ n) × (n < g .s) × (outside g n ≡ false)))
 unfolding outside
 side g n = go (decLt n (gF g)) (decLt n (g .s))
   where

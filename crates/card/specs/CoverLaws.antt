@@ -1,39 +1,24 @@
 -- The sectors of the files that a view shows, entry by entry. Assumes nothing.
 use mathlib.Core.Path.{_≡_, refl}
-use mathlib.Core.Logic.{⊎-elim}
 use mathlib.Core.Bool.{true}
 use mathlib.Core.List.{List, [], _∷_}
-use Prim.Native.Nat.{ℕ, suc, _+_, _≤_, _<_}
-use native.Mathlib.Numerals.{add-one}
+use Prim.Native.Nat.{ℕ, suc, _+_, _<_}
 use native.Mathlib.Omega.{arith}
-use lib.ListN.{length, drop, getD, drop-of-length-le}
-use lib.Seq.{drop-cons}
+use lib.ListN.{length, getD}
 use Rattle.sums.specs.Sums.{inRun}
-use Rattle.sums.specs.SumLaws.{place}
 use Rattle.words.specs.Lists.{every}
 use Rattle.words.specs.EveryLaws.{every-at}
 use Rattle.counts.specs.declared.Geo.{Geo}
-use Rattle.counts.specs.Geometry.{gF}
 use Rattle.entries.specs.declared.Run.{Run}
 use Rattle.entries.specs.declared.Version.{Version}
 use Rattle.entries.specs.declared.Version.the-variants.{Absent, Present}
 use Rattle.entries.specs.Entries.{versionOf, shown, shownBytes, sectorsFor, runOk, entryOk}
 use Rattle.entries.specs.PassLaws.{passes, run-is, version-run}
-use Rattle.card.specs.declared.Line.{Line}
-use Rattle.card.specs.Files.{consFile, filesOf, cover, runOf}
+use Rattle.card.specs.Files.{filesOf, cover, runOf}
 use Rattle.card.specs.FileLaws.{Within, none, within-cons}
-
-abbrev pub startOf : Version → ℕ
-startOf v = runOf v .start .0
-
-abbrev pub sectorsIn : Version → ℕ
-sectorsIn v = runOf v .sectors
+use Rattle.card.specs.RuleLaws.{cover-version}
 
 -- ---- a run that is well formed
-
--- it is empty, or it lies inside the data
-pub run-data : (g : Geo) (r : Run) → runOk g r ≡ true → (n : ℕ) → r .start .0 ≤ n → n < r .start .0 + r .sectors → (gF g ≤ n) × (n < g .s)
-run-data g r ok n h k = let w = run-is g r ok .span (omega arith) in (omega (arith, w .0), omega (arith, w .1))
 
 none-run : (g : Geo) → runOk g (runOf Absent) ≡ true
 unfolding runOk runOf sectorsFor
@@ -65,20 +50,13 @@ runs-within g tab (p ∷ es) runs =
     go : (v : Version) {r : Run} → v ≡ Present r → runOk g (runOf v) ≡ true → runOk g r ≡ true
     go v {r} e h = rw e at h
 
--- ---- the files of the entries from j on
+-- ---- the first entry's share, and what is left
 
-pub cover-cons : (p : List ℕ) (v : Version) (r : List Line) (n : ℕ) → cover (consFile p v r) n ≡ inRun (startOf v) (sectorsIn v) n + cover r n
-unfolding cover consFile runOf
-cover-cons p Absent r n =
-    ⊎-elim (λ w. omega arith) (⊎-elim (λ w. absurd (omega arith)) (λ w. omega arith)) (place 0 0 n)
-cover-cons p (Present x) r n = refl
+pub cover-none : (tab : List ℕ) (n : ℕ) → cover (filesOf tab []) n ≡ 0
+unfolding filesOf cover
+cover-none tab n = refl
 
--- the next entry's share, and what is left
-pub cover-next : (tab : List ℕ) (es : List (List ℕ)) (j n : ℕ) → j < length es
-    → cover (filesOf tab (drop j es)) n ≡ inRun (startOf (shown tab (getD es j []))) (sectorsIn (shown tab (getD es j []))) n + cover (filesOf tab (drop (j + 1) es)) n
+pub cover-entry : (tab p : List ℕ) (es : List (List ℕ)) (n : ℕ)
+    → cover (filesOf tab (p ∷ es)) n ≡ inRun (runOf (shown tab p) .start .0) (runOf (shown tab p) .sectors) n + cover (filesOf tab es) n
 unfolding filesOf
-cover-next tab es j n h = rw (add-one, drop-cons es j [] h) (cover-cons (getD es j []) (shown tab (getD es j [])) (filesOf tab (drop (suc j) es)) n)
-
-pub cover-none : (tab : List ℕ) (es : List (List ℕ)) (j n : ℕ) → length es ≤ j → cover (filesOf tab (drop j es)) n ≡ 0
-unfolding cover filesOf
-cover-none tab es j n h = rw (drop-of-length-le es h)
+cover-entry tab p es n = cover-version p (shown tab p) (filesOf tab es) n

@@ -1,6 +1,6 @@
 -- What the bitmap's test means: the shown apage has set exactly the bits of the paper, each sector in one file. Assumes nothing.
 use mathlib.Core.Path.{_≡_, refl, sym, ap, _∙_}
-use mathlib.Core.Bool.{true, not}
+use mathlib.Core.Bool.{true}
 use mathlib.Core.List.{List, [], _∷_}
 use mathlib.Core.Logic.{_⊎_, inl, inr, ⊎-elim}
 use Prim.Native.Nat.{ℕ, zero, suc, _+_, _-_, _/_, _≤_, _<_}
@@ -27,7 +27,7 @@ use Rattle.apages.specs.BitLaws.{bit-lt}
 use Rattle.apages.specs.Runs.{wanted, bitsOk, isFull, bytesToS, pageOk}
 use Rattle.apages.specs.Index.{pageIn}
 use Rattle.card.specs.Files.{filesOf, cover, runOf}
-use Rattle.card.specs.RuleLaws.{cover-version}
+use Rattle.card.specs.CoverLaws.{cover-none, cover-entry}
 use Rattle.card.specs.BitmapLaws.{InData, in-data, wanted-in, wanted-out, page-bits}
 use Rattle.card.specs.PageIs.{bits-page}
 use Rattle.card.specs.Means.{Each, Inside, Holds, Held, Bits, OneFile, Bytes}
@@ -40,14 +40,6 @@ module _ (tab : List ℕ) where
 
   abbrev share : List ℕ → ℕ → ℕ
   share p n = inRun (runOf (shown tab p) .start .0) (runOf (shown tab p) .sectors) n
-
-  cover-nil : (n : ℕ) → cover (filesOf tab []) n ≡ 0
-  unfolding filesOf cover
-  cover-nil n = refl
-
-  cover-cons : (p : List ℕ) (es : List (List ℕ)) (n : ℕ) → cover (filesOf tab (p ∷ es)) n ≡ share p n + cover (filesOf tab es) n
-  unfolding filesOf
-  cover-cons p es n = cover-version p (shown tab p) (filesOf tab es) n
 
   -- a sector of the first entry's file, or not
   share-is : (p : List ℕ) (n : ℕ) → (Holds tab p n × (share p n ≡ 1)) ⊎ ((¬ Holds tab p n) × (share p n ≡ 0))
@@ -62,24 +54,24 @@ module _ (tab : List ℕ) where
   some-next p es n (i, l, q) = (suc i, omega arith, q)
 
   pub held-some : (es : List (List ℕ)) (n : ℕ) → 1 ≤ cover (filesOf tab es) n → Some es n
-  held-some [] n h = absurd (omega (arith, cover-nil n))
+  held-some [] n h = absurd (omega (arith, cover-none tab n))
   held-some (p ∷ es) n h =
-      ⊎-elim (λ w. (0, omega arith, w .0)) (λ w. some-next p es n (held-some es n (omega (arith, cover-cons p es n, w .1)))) (share-is p n)
+      ⊎-elim (λ w. (0, omega arith, w .0)) (λ w. some-next p es n (held-some es n (omega (arith, cover-entry tab p es n, w .1)))) (share-is p n)
 
   pub some-held : (es : List (List ℕ)) (n i : ℕ) → i < length es → Holds tab (getD es i []) n → 1 ≤ cover (filesOf tab es) n
   some-held [] n i l h = absurd (omega arith)
-  some-held (p ∷ es) n zero l h = ⊎-elim (λ w. omega (arith, cover-cons p es n, w .1)) (λ w. absurd (w .0 h)) (share-is p n)
-  some-held (p ∷ es) n (suc i) l h = omega (arith, cover-cons p es n, some-held es n i (omega arith) h)
+  some-held (p ∷ es) n zero l h = ⊎-elim (λ w. omega (arith, cover-entry tab p es n, w .1)) (λ w. absurd (w .0 h)) (share-is p n)
+  some-held (p ∷ es) n (suc i) l h = omega (arith, cover-entry tab p es n, some-held es n i (omega arith) h)
 
   pub once-one : (es : List (List ℕ)) (n : ℕ) → cover (filesOf tab es) n ≤ 1 → (i j : ℕ) → i < length es → j < length es
       → Holds tab (getD es i []) n → Holds tab (getD es j []) n → i ≡ j
   once-one [] n h i j li lj x y = absurd (omega arith)
   once-one (p ∷ es) n h zero zero li lj x y = refl
   once-one (p ∷ es) n h zero (suc j) li lj x y =
-      ⊎-elim (λ w. absurd (omega (arith, cover-cons p es n, w .1, some-held es n j (omega arith) y))) (λ w. absurd (w .0 x)) (share-is p n)
+      ⊎-elim (λ w. absurd (omega (arith, cover-entry tab p es n, w .1, some-held es n j (omega arith) y))) (λ w. absurd (w .0 x)) (share-is p n)
   once-one (p ∷ es) n h (suc i) zero li lj x y =
-      ⊎-elim (λ w. absurd (omega (arith, cover-cons p es n, w .1, some-held es n i (omega arith) x))) (λ w. absurd (w .0 y)) (share-is p n)
-  once-one (p ∷ es) n h (suc i) (suc j) li lj x y = ap suc (once-one es n (omega (arith, cover-cons p es n)) i j (omega arith) (omega arith) x y)
+      ⊎-elim (λ w. absurd (omega (arith, cover-entry tab p es n, w .1, some-held es n i (omega arith) x))) (λ w. absurd (w .0 y)) (share-is p n)
+  once-one (p ∷ es) n h (suc i) (suc j) li lj x y = ap suc (once-one es n (omega (arith, cover-entry tab p es n)) i j (omega arith) (omega arith) x y)
 
   abbrev Once : List (List ℕ) → ℕ → Type 0
   Once es n = (i j : ℕ) → i < length es → j < length es → Holds tab (getD es i []) n → Holds tab (getD es j []) n → i ≡ j
@@ -88,15 +80,15 @@ module _ (tab : List ℕ) where
   once-next p es n q i j li lj x y = let e : suc i ≡ suc j = q (suc i) (suc j) (omega arith) (omega arith) x y in omega arith
 
   pub one-once : (es : List (List ℕ)) (n : ℕ) → Once es n → cover (filesOf tab es) n ≤ 1
-  one-once [] n q = omega (arith, cover-nil n)
+  one-once [] n q = omega (arith, cover-none tab n)
   one-once (p ∷ es) n q =
-      ⊎-elim (λ w. go w (decLt 0 (cover (filesOf tab es) n))) (λ w. omega (arith, cover-cons p es n, w .1, one-once es n (once-next p es n q))) (share-is p n)
+      ⊎-elim (λ w. go w (decLt 0 (cover (filesOf tab es) n))) (λ w. omega (arith, cover-entry tab p es n, w .1, one-once es n (once-next p es n q))) (share-is p n)
     where
       go : Holds tab p n × (share p n ≡ 1) → Dec (0 < cover (filesOf tab es) n) → cover (filesOf tab (p ∷ es)) n ≤ 1
       go w (yes l) =
           let (i, k, h) = held-some es n (omega arith) in
           let e : 0 ≡ suc i = q 0 (suc i) (omega arith) (omega arith) (w .0) h in absurd (omega arith)
-      go w (no l) = omega (arith, cover-cons p es n, w .1)
+      go w (no l) = omega (arith, cover-entry tab p es n, w .1)
 
 -- ---- the bitmap
 

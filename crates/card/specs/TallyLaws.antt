@@ -1,9 +1,9 @@
 -- A map passes by its ones and the files' own runs exactly when its bits are as wanted. Assumes nothing.
-use mathlib.Core.Path.{_≡_, refl, sym, ap, _∙_}
-use mathlib.Core.Bool.{Bool, true, false, _&&_, _||_}
+use mathlib.Core.Path.{_≡_, refl, sym, _∙_}
+use mathlib.Core.Bool.{Bool, true, false, _&&_}
 use mathlib.Core.List.{List, [], _∷_}
 use mathlib.Core.Logic.{_⊎_, inl, inr, ⊎-elim}
-use Prim.Native.Nat.{ℕ, zero, suc, _+_, _-_, _*_, _≤_, _<_}
+use Prim.Native.Nat.{ℕ, suc, _+_, _-_, _*_, _≤_, _<_}
 use native.Mathlib.Decide.{decLt, decLe}
 use native.Mathlib.Omega.{arith}
 use borrow.Author.Tests.{eqb-true, eq-eqb, leb-true, le-leb}
@@ -16,7 +16,7 @@ use Rattle.words.specs.BoolLaws.{both, join, or-intro, or-cases}
 use Rattle.counts.specs.declared.Geo.{Geo}
 use Rattle.counts.specs.Geometry.{gF}
 use Rattle.entries.specs.declared.Run.{Run}
-use Rattle.entries.specs.Entries.{shown, runOk}
+use Rattle.entries.specs.Entries.{shown}
 use Rattle.entries.specs.PassLaws.{RunIs, run-is}
 use Rattle.apages.specs.Bits.{bitAt}
 use Rattle.apages.specs.BitLaws.{bit-lt}
@@ -26,7 +26,7 @@ use Rattle.apages.specs.Runs.{wanted, pageOk}
 use Rattle.card.specs.Files.{filesOf, cover, sectorsOf, runOf}
 use Rattle.card.specs.BitmapLaws.{InData, in-data, wanted-in, wanted-out, page-bits}
 use Rattle.card.specs.FileLaws.{Within, cover-out, in-run, out-run}
-use Rattle.card.specs.CoverLaws.{RunsOk, cover-cons, runs-within}
+use Rattle.card.specs.CoverLaws.{RunsOk, cover-none, cover-entry, runs-within}
 use Rattle.card.specs.PageIs.{bits-page}
 use Rattle.card.specs.SpaceLaws.{cover-total}
 use Rattle.card.specs.Tally.{isHeld, parted, heldBy, partedFrom, partedIn, fixedBits, tallyOk}
@@ -73,21 +73,13 @@ module _ (tab : List ℕ) where
   abbrev R : List ℕ → ℕ → ℕ
   R p n = inRun (run p .start .0) (run p .sectors) n
 
-  cons : (p : List ℕ) (es : List (List ℕ)) (n : ℕ) → S (p ∷ es) n ≡ R p n + S es n
-  unfolding filesOf
-  cons p es n = cover-cons p (shown tab p) (filesOf tab es) n
-
-  none : (n : ℕ) → S [] n ≡ 0
-  unfolding filesOf cover
-  none n = refl
-
   -- every run's bits are set exactly when the bit of each sector is that a file holds
   held-bit : (m : List ℕ) (es : List (List ℕ)) (n : ℕ) → every (heldBy tab m) es ≡ true → 1 ≤ S es n → bitAt m n ≡ 1
   unfolding every isHeld
-  held-bit m [] n h l = absurd (omega (arith, none n))
+  held-bit m [] n h l = absurd (omega (arith, cover-none tab n))
   held-bit m (p ∷ es) n h l =
       let (a, b) = both (isHeld m (run p)) _ h in
-      let rest : R p n ≡ 0 → bitAt m n ≡ 1 = λ z. held-bit m es n b (omega (arith, cons p es n)) in
+      let rest : R p n ≡ 0 → bitAt m n ≡ 1 = λ z. held-bit m es n b (omega (arith, cover-entry tab p es n)) in
       ⊎-elim (λ w. rest (w .1)) (⊎-elim (λ w. all-at m (run p .sectors) (run p .start .0) n a (w .0) (w .1)) (λ w. rest (w .2))) (place (run p .start .0) (run p .sectors) n)
 
   bits-held : (m : List ℕ) (es : List (List ℕ)) → ((n : ℕ) → 1 ≤ S es n → bitAt m n ≡ 1) → every (heldBy tab m) es ≡ true
@@ -95,25 +87,25 @@ module _ (tab : List ℕ) where
   bits-held m [] h = refl
   bits-held m (p ∷ es) h =
       join _ _
-      (all-set m (run p .sectors) (run p .start .0) (λ n x y. h n (omega (arith, cons p es n, in-run (run p .start .0) (run p .sectors) n x y))))
-      (bits-held m es (λ n l. h n (omega (arith, cons p es n))))
+      (all-set m (run p .sectors) (run p .start .0) (λ n x y. h n (omega (arith, cover-entry tab p es n, in-run (run p .start .0) (run p .sectors) n x y))))
+      (bits-held m es (λ n l. h n (omega (arith, cover-entry tab p es n))))
 
   -- no two runs meet exactly when no sector lies in two files
   parted-none : (r : Run) (es : List (List ℕ)) (n : ℕ) → every (partedFrom tab r) es ≡ true → r .start .0 ≤ n → n < r .start .0 + r .sectors → S es n ≡ 0
   unfolding every
-  parted-none r [] n h lo hi = none n
+  parted-none r [] n h lo hi = cover-none tab n
   parted-none r (p ∷ es) n h lo hi =
       let (a, b) = both (parted r (run p)) _ h in
-      omega (arith, cons p es n, parted-out r (run p) n a lo hi, parted-none r es n b lo hi)
+      omega (arith, cover-entry tab p es n, parted-out r (run p) n a lo hi, parted-none r es n b lo hi)
 
   parted-one : (es : List (List ℕ)) (n : ℕ) → pairwise (partedIn tab) es ≡ true → S es n ≤ 1
   unfolding pairwise
-  parted-one [] n h = omega (arith, none n)
+  parted-one [] n h = omega (arith, cover-none tab n)
   parted-one (p ∷ es) n h =
       let (a, b) = both (every (partedFrom tab (run p)) es) _ h in
       let ih = parted-one es n b in
-      ⊎-elim (λ w. omega (arith, cons p es n))
-      (⊎-elim (λ w. omega (arith, cons p es n, parted-none (run p) es n a (w .0) (w .1))) (λ w. omega (arith, cons p es n)))
+      ⊎-elim (λ w. omega (arith, cover-entry tab p es n))
+      (⊎-elim (λ w. omega (arith, cover-entry tab p es n, parted-none (run p) es n a (w .0) (w .1))) (λ w. omega (arith, cover-entry tab p es n)))
       (place (run p .start .0) (run p .sectors) n)
 
   module _ (g : Geo) where
@@ -121,15 +113,15 @@ module _ (tab : List ℕ) where
     unfolding every
     row-parted r [] I runs h = refl
     row-parted r (p ∷ es) I runs h =
-        join _ _ (parted-in g r (run p) I (run-is g (run p) (runs 0 (omega arith))) (λ n. omega (arith, h n, cons p es n)))
-        (row-parted r es I (λ j l. runs (suc j) (omega arith)) (λ n. omega (arith, h n, cons p es n)))
+        join _ _ (parted-in g r (run p) I (run-is g (run p) (runs 0 (omega arith))) (λ n. omega (arith, h n, cover-entry tab p es n)))
+        (row-parted r es I (λ j l. runs (suc j) (omega arith)) (λ n. omega (arith, h n, cover-entry tab p es n)))
 
     one-parted : (es : List (List ℕ)) → RunsOk g tab es → ((n : ℕ) → S es n ≤ 1) → pairwise (partedIn tab) es ≡ true
     unfolding pairwise
     one-parted [] runs h = refl
     one-parted (p ∷ es) runs h =
-        join _ _ (row-parted (run p) es (run-is g (run p) (runs 0 (omega arith))) (λ j l. runs (suc j) (omega arith)) (λ n. omega (arith, h n, cons p es n)))
-        (one-parted es (λ j l. runs (suc j) (omega arith)) (λ n. omega (arith, h n, cons p es n)))
+        join _ _ (row-parted (run p) es (run-is g (run p) (runs 0 (omega arith))) (λ j l. runs (suc j) (omega arith)) (λ n. omega (arith, h n, cover-entry tab p es n)))
+        (one-parted es (λ j l. runs (suc j) (omega arith)) (λ n. omega (arith, h n, cover-entry tab p es n)))
 
 -- ---- the whole
 

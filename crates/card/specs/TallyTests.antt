@@ -1,6 +1,6 @@
 -- The runs that the entries show, tested one by one: each lies below S, all their sectors, and no two meet. Assumes nothing.
-use mathlib.Core.Path.{_≡_, refl, sym, ap, _∙_}
-use mathlib.Core.Bool.{Bool, true, false, not, _&&_, _||_}
+use mathlib.Core.Path.{_≡_, refl, sym, _∙_}
+use mathlib.Core.Bool.{Bool, true, false, not, _||_}
 use mathlib.Core.List.{List, []}
 use mathlib.Core.Logic.{_⊎_, inl, inr, ⊎-elim}
 use Prim.Native.Nat.{ℕ, suc, _+_, _-_, _≤_, _<_}
@@ -12,7 +12,7 @@ use lib.Dec.{leb}
 use lib.ListN.{length, drop, getD, drop-of-length-le}
 use lib.Seq.{drop-cons}
 use Rattle.words.specs.Lists.{every, pairwise}
-use Rattle.words.specs.BoolLaws.{both, or-intro, falsum}
+use Rattle.words.specs.BoolLaws.{both, or-intro}
 use Rattle.words.specs.EveryLaws.{every-all, every-from, pair-next, pair-rest}
 use Rattle.counts.specs.declared.Geo.{Geo}
 use Rattle.entries.specs.declared.Run.{Run}

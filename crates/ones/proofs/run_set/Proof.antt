@@ -3,7 +3,6 @@ use mathlib.Core.Path.{_≡_}
 use Prim.Native.Nat.{_+_, _-_, _≤_}
 use native.Mathlib.Omega.{arith}
 use borrow.Author.Needs.{needs}
-use borrow.Author.Tests.{eqb-true}
 use Rattle.apages.specs.Ones.{allSet}
 use Rattle.apages.specs.OnesLaws.{all-start, all-go, all-stop, all-end}
 use Rattle.ones.proofs.run_set.Statement.{statement}
