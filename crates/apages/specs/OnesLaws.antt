@@ -7,11 +7,11 @@ use native.Mathlib.Decide.{ℕ-discrete}
 use native.Mathlib.Nat.{pow-suc, add-zero, add-assoc}
 use native.Mathlib.Omega.{arith}
 use borrow.Author.Tests.{eqb-true, eq-eqb}
-use lib.Count.{ones, ones-step, ones-cat}
+use lib.Count.{ones, ones-step, ones-cat, ones-ones}
 use lib.Dec.{eqb}
 use lib.ListN.{length, getD}
 use Rattle.sums.specs.Sums.{total}
-use Rattle.sums.specs.SumLaws.{total-add, total-same, total-split, total-front, total-one}
+use Rattle.sums.specs.SumLaws.{total-add, total-same, total-split, total-front, total-one, total-tight}
 use Rattle.words.specs.BoolLaws.{both, join}
 use Rattle.words.specs.Bytes.{wordAt}
 use Rattle.words.specs.WordLaws.{wordAt-getD}
@@ -114,7 +114,20 @@ unfolding allSet
 all-set m zero a h = refl
 all-set m (suc k) a h = join _ _ (eq-eqb (bitAt m a) 1 (h a (omega arith) (omega arith))) (all-set m k (suc a) (λ n x y. h n (omega arith) (omega arith)))
 
--- a full byte's bits, and one bit that is set or none
+-- a full word's bits, a full byte's, and one bit that is set or none
+pub word-set : (m : List ℕ) (bytes : (j : ℕ) → getD m j 0 < 256) (n : ℕ) → n % 64 ≡ 0 → word64At m (n / 8) ≡ 18446744073709551615 → allSet m n 64 ≡ true
+word-set m bytes n z h =
+    all-set m 64 n
+    (λ i x y. let e : 8 * (n / 8) + (i - n) ≡ i = omega arith in
+    rw e at (total-tight (λ j. bitAt m (8 * (n / 8) + j)) (λ j. 1) 64 (λ j l. omega (arith, bit-lt m (8 * (n / 8) + j))) sum (i - n) (omega arith)))
+  where
+    sum : total (λ j. bitAt m (8 * (n / 8) + j)) 64 ≡ total (λ j. 1) 64
+    sum =
+        let a : 8 * (n / 8 + 8) ≡ 8 * (n / 8) + 64 = omega arith in
+        let b : ones (word64At m (n / 8)) ≡ 64 = ap ones h ∙ ones-ones 64 in
+        omega
+        (arith, total-one 64, total-split (bitAt m) (8 * (n / 8)) 64, rw a at (bytes-more m bytes (n / 8) 8), word-ones m bytes (n / 8), ones-word (word64At m (n / 8)) (word-lt m bytes (n / 8)))
+
 pub full-set : (m : List ℕ) (n : ℕ) → n % 8 ≡ 0 → getD m (n / 8) 0 ≡ 255 → allSet m n 8 ≡ true
 unfolding bitAt
 full-set m n z h =

@@ -50,11 +50,16 @@ pub fn count_clear(p: &[u8]) -> u32
 
 // ---- a run
 
-// How many of the next sectors, from n on and below the end, are seen to be set: those of a whole byte, or one, or none.
+// How many of the next sectors, from n on and below the end, are seen to be set: those of a whole word, of a whole byte, or one, or none.
 fn next_set(p: &[u8], n: usize, end: usize) -> usize
     requires { ⌜ (length (now p) ≤ 512) × (n < end) × (end ≤ 8 * length (now p)) ⌝ }
     ensures { λ r. ⌜ (allSet (now (p .entry)) n r ≡ true) × (n + r ≤ end) × (r ≡ 0 → bitAt (now (p .entry)) n ≡ 0) ⌝ }
 {
+    if (n % 64 == 0) & (n + 64 <= end) {
+        if word64(p, n / 8) == 18446744073709551615 {
+            return 64;
+        }
+    }
     if (n % 8 == 0) & (n + 8 <= end) & (p[n / 8] == 255) {
         return 8;
     }

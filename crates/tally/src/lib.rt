@@ -66,16 +66,14 @@ fn parted_from(card: &[u8], g: Geo, v: View, r: Run, i: usize) -> bool
     ensures { λ b. ⌜ b ≡ every (partedFrom (tableIn g v (sec (now (card .entry)))) r) (drop i (entriesOf g (sec (now (card .entry))))) ⌝ }
 {
     let end = r.start.0 + r.sectors;
+    let mut ok = true;
     let mut j = i;
     while j < 4 * (g.d as usize) {
         let q = run_at(card, g, v, j);
-        let ok = (end <= q.start.0) | (q.start.0 + q.sectors <= r.start.0);
-        if !ok {
-            return false;
-        }
+        ok = ok & ((end <= q.start.0) | (q.start.0 + q.sectors <= r.start.0));
         j += 1;
     }
-    true
+    ok
 }
 
 // Whether no two shown runs meet. From the last entry down: the files of the entries before `rest` start at `low` or past it, so a run that ends

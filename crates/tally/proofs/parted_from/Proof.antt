@@ -1,13 +1,15 @@
--- The loop's invariant: the answer for the entries that are left. Assumes nothing.
+-- The loop's invariant: the answer is what was seen so far, and that for the entries that are left. Assumes nothing.
 use mathlib.Core.Path.{_≡_, refl}
+use mathlib.Core.Bool.{_&&_, _||_}
 use mathlib.Core.List.{[]}
-use Prim.Native.Nat.{_-_, _*_, _≤_}
+use Prim.Native.Nat.{_+_, _-_, _*_, _≤_}
 use native.Mathlib.Omega.{arith}
 use borrow.Author.Needs.{needs}
-use lib.ListN.{drop}
-use Rattle.words.specs.Lists.{every}
-use Rattle.words.specs.EveryLaws.{every-stop, every-go, every-end}
 use denote.Ref.{now}
+use lib.Dec.{leb}
+use lib.ListN.{drop, getD}
+use Rattle.words.specs.Lists.{every}
+use Rattle.words.specs.EveryLaws.{seen-go, seen-end}
 use Rattle.sectors.specs.Sectors.{sec}
 use Rattle.counts.specs.Stamps.{tableIn}
 use Rattle.directory.specs.Directory.{entriesOf}
@@ -19,10 +21,10 @@ use Rattle.tally.proofs.parted_from.Statement.{statement}
 use Rattle.tally.proofs.parted_from.Tie as tie
 
 abbrev Inv-loop : tie.InvT-loop
-Inv-loop card g v r i end j₀ j = (j ≤ 4 * g .d) × (every (partedFrom (tableIn g v (sec card)) r) (drop i (entriesOf g (sec card))) ≡ every (partedFrom (tableIn g v (sec card)) r) (drop j (entriesOf g (sec card))))
+Inv-loop card g v r i end ok₀ j₀ ok j = (j ≤ 4 * g .d) × (every (partedFrom (tableIn g v (sec card)) r) (drop i (entriesOf g (sec card))) ≡ (ok && every (partedFrom (tableIn g v (sec card)) r) (drop j (entriesOf g (sec card)))))
 
 abbrev μ-loop : tie.MeasureT-loop
-μ-loop card g v r i end j₀ j = 4 * g .d - j
+μ-loop card g v r i end ok₀ j₀ ok j = 4 * g .d - j
 
 add-end : tie.Need-add-end Inv-loop μ-loop
 add-end c = search needs
@@ -46,10 +48,6 @@ add-ok c =
     let P = c .before .before .before .before .before .before .before .before .pre in
     omega (arith, P .0 .s, run-below (a .g) _ (entriesOf (a .g) (sec (now (a .card)))) (P .1 .1 .1) _ (entries-lt (a .g) (now (a .card)) _ (c .before .before .before .if1 .taken)) (c .before .before .run-at .ensures))
 
-returns : tie.Need-returns Inv-loop μ-loop
-unfolding runAt
-returns c = every-stop _ _ [] _ _ (entries-lt _ _ _ (c .before .before .before .before .before .if1 .taken)) (parted-here _ _ _ refl (c .before .before .before .before .run-at .ensures) refl) (c .if2 .taken) (c .before .before .before .before .before .before .before .loop .inv .1)
-
 add-j : tie.Need-add-j Inv-loop μ-loop
 add-j c = search needs
 
@@ -58,10 +56,16 @@ loop-less c = search needs
 
 loop-again : tie.Need-loop-again Inv-loop μ-loop
 unfolding runAt
-loop-again c = (omega arith, every-go _ _ [] _ _ (entries-lt _ _ _ (c .before .before .before .before .before .if1 .taken)) (parted-here _ _ _ refl (c .before .before .before .before .run-at .ensures) refl) (c .if2 .left) (c .before .before .before .before .before .before .before .loop .inv .1))
+loop-again c =
+    let a = c .before .before .before .before .before .before .before .before .before .args in
+    let q = c .before .before .before .run-at .result in
+    let tab = tableIn (a .g) (a .v) (sec (now (a .card))) in
+    let es = entriesOf (a .g) (sec (now (a .card))) in
+    let here = leb (a .r .start .0 + a .r .sectors) (q .start .0) || leb (q .start .0 + q .sectors) (a .r .start .0) in
+    (omega arith, seen-go (partedFrom tab (a .r)) es [] (c .before .before .before .before .before .before .loop .j) (c .before .before .before .before .before .before .loop .ok) here (entries-lt (a .g) (now (a .card)) _ (c .before .before .before .before .if1 .taken)) (parted-here tab (a .r) (getD es (c .before .before .before .before .before .before .loop .j) []) refl (c .before .before .before .run-at .ensures) refl) (c .before .before .before .before .before .before .loop .inv .1))
 
-returns-2 : tie.Need-returns-2 Inv-loop μ-loop
-returns-2 c = every-end _ _ [] _ (entries-le _ _ _ (c .if1 .left)) (c .before .before .loop .inv .1)
+returns : tie.Need-returns Inv-loop μ-loop
+returns c = seen-end _ _ [] _ _ (entries-le _ _ _ (c .if1 .left)) (c .before .before .loop .inv .1)
 
 pub parted-from-spec : {M : Type 1} → statement M
 parted-from-spec =
@@ -75,8 +79,7 @@ parted-from-spec =
     mul-if1
     run-at-requires
     add-ok
-    returns
     add-j
     loop-less
     loop-again
-    returns-2)
+    returns)
