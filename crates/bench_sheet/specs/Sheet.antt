@@ -8,20 +8,20 @@ use Rattle.sums.specs.Sums.{inRun}
 use Rattle.words.specs.Lists.{every, pairwise, firstAt, eqList, part, over, splice, setPart, pad}
 use Rattle.words.specs.Bytes.{wordAt, words, wordBytes}
 use Rattle.sectors.specs.Sectors.{sec, setSec, applySteps, copySteps}
-use Rattle.counts.specs.Geometry.{gN, gF, geoOk, countOf, geoOf, tableFrom, tableOf}
+use Rattle.counts.specs.Geometry.{gN, gP, gDir, gF, geoOk, countOf, geoOf, tableFrom, tableOf}
 use Rattle.counts.specs.Stamps.{stampOf, alive, showing, stampOk, deadBelow, tableOk, tableIn, asIs, sameStamp, standing, becomesOld}
 use Rattle.entries.specs.Entries.{versionOf, versionBytes, newOf, oldOf, nameBytes, entryOf, entryBytes, shownBytes, shown, goodName, nameOf, nameOk, sectorsFor, runOk, versionOk, entryOk, changed}
 use Rattle.directory.specs.Directory.{sectorEntries, entriesFrom, entriesOf, spotsFrom, spotOf, setEntry, gone, apart, named}
 use Rattle.apages.specs.Bits.{bitAt, putDigit, putBit, setRun, bitsN, bitsOf, clearIn, clearBits}
-use Rattle.apages.specs.Runs.{merge, allClear, findRun, lowestRun, runFor, outside, wanted, bitsOk, bytesToS, pageOk, freshPage}
-use Rattle.apages.specs.Index.{indexOf, indexBytes, indexIn, pairOk, indexOk, shownPage, pageIn, changedIndex, pageBefore, changedPages, changeBits}
+use Rattle.apages.specs.Runs.{merge, allClear, findRun, lowestRun, runFor, outside, wanted, bitsOk, bytesToS, pageOk, dataFrom, dataTo, freshPage}
+use Rattle.apages.specs.Index.{indexOf, groupBytes, groupOf, everyGroup, indexIn, pairOk, groupOk, indexOk, shownPage, pageAt, mapFrom, pageIn, changedIndex, pageBefore, changedRun, changeRun, changeBits}
 use Rattle.card.specs.Plan.{guard, need, ended, refused, done}
 use Rattle.card.specs.Files.{consFile, filesOf, cover, contentOf, runOf, runAt, getPlan, getEnd, listPlan, listEnd}
 use Rattle.card.specs.Sound.{viewOk, soundIn, shapeOk, sound}
-use Rattle.card.specs.Make.{blockBytes, freshIndex, freshCard, makePlan, make}
+use Rattle.card.specs.Make.{blockBytes, freshGroup, freshGroups, freshIndex, freshPages, freshCard, makePlan, make}
 use Rattle.card.specs.Reading.{filesIn, filesShown, pageShown, readPlan, read, readList, readGet}
 use Rattle.session.specs.Views.{ownStamp, presentView, presentTable, cutTable, presentPage, cutPage, presentFiles, sessionFiles}
-use Rattle.session.specs.Fits.{sizesOk, headOk, wordOk, stampAtMost, entryAtMost, fitsIn, fits}
+use Rattle.session.specs.Fits.{sizesOk, headOk, wordOk, stampAtMost, entryAtMost, groupAtMost, indexAtMost, fitsIn, fits}
 use Rattle.store.specs.Steps.{setCount, setWord, tableSector, mountSteps, syncSteps, atTop, downSteps, unmountStepsBy, unmountSteps, syncWork, downWork, unmountWorkBy, unmountWork}
 use Rattle.store.specs.Mount.{mountPlan, openedFrom, mountDone, mount}
 use Rattle.store.specs.Edit.{orElse, putPlace, placeIn, runIn, putPlan, putContent, editWork, putRun, putWork, put, removePlan, removeWork, remove}
@@ -96,10 +96,10 @@ others =
 
 -- every starred line of the bench sheet holds
 pub sheet : all starred ≡ true
-unfolding all starred run sameLine hasLine isAnswer isReport stepsDone ten four inRun every pairwise firstAt eqList part over splice setPart pad wordAt words wordBytes sec setSec applySteps copySteps gN gF geoOk countOf geoOf tableFrom tableOf stampOf alive showing stampOk deadBelow tableOk tableIn asIs sameStamp standing becomesOld versionOf versionBytes newOf oldOf nameBytes entryOf entryBytes shownBytes shown goodName nameOf nameOk sectorsFor runOk versionOk entryOk changed sectorEntries entriesFrom entriesOf spotsFrom spotOf setEntry gone apart named bitAt putDigit putBit setRun bitsN bitsOf clearIn clearBits merge allClear findRun lowestRun runFor outside wanted bitsOk bytesToS pageOk freshPage indexOf indexBytes indexIn pairOk indexOk shownPage pageIn changedIndex pageBefore changedPages changeBits guard need ended refused done consFile filesOf cover contentOf runOf runAt getPlan getEnd listPlan listEnd viewOk soundIn shapeOk sound blockBytes freshIndex freshCard makePlan make filesIn filesShown pageShown readPlan read readList readGet ownStamp presentView presentTable cutTable presentPage cutPage presentFiles sessionFiles sizesOk headOk wordOk stampAtMost entryAtMost fitsIn fits setCount setWord tableSector mountSteps syncSteps atTop downSteps unmountStepsBy unmountSteps syncWork downWork unmountWorkBy unmountWork mountPlan openedFrom mountDone mount orElse putPlace placeIn runIn putPlan putContent editWork putRun putWork put removePlan removeWork remove get list free bothPlan land grown syncDone sync unmountDone unmount
+unfolding all starred run sameLine hasLine isAnswer isReport stepsDone ten four inRun every pairwise firstAt eqList part over splice setPart pad wordAt words wordBytes sec setSec applySteps copySteps gN gP gDir gF geoOk countOf geoOf tableFrom tableOf stampOf alive showing stampOk deadBelow tableOk tableIn asIs sameStamp standing becomesOld versionOf versionBytes newOf oldOf nameBytes entryOf entryBytes shownBytes shown goodName nameOf nameOk sectorsFor runOk versionOk entryOk changed sectorEntries entriesFrom entriesOf spotsFrom spotOf setEntry gone apart named bitAt putDigit putBit setRun bitsN bitsOf clearIn clearBits merge allClear findRun lowestRun runFor outside wanted bitsOk bytesToS pageOk dataFrom dataTo freshPage indexOf groupBytes groupOf everyGroup indexIn pairOk groupOk indexOk shownPage pageAt mapFrom pageIn changedIndex pageBefore changedRun changeRun changeBits guard need ended refused done consFile filesOf cover contentOf runOf runAt getPlan getEnd listPlan listEnd viewOk soundIn shapeOk sound blockBytes freshGroup freshGroups freshIndex freshPages freshCard makePlan make filesIn filesShown pageShown readPlan read readList readGet ownStamp presentView presentTable cutTable presentPage cutPage presentFiles sessionFiles sizesOk headOk wordOk stampAtMost entryAtMost groupAtMost indexAtMost fitsIn fits setCount setWord tableSector mountSteps syncSteps atTop downSteps unmountStepsBy unmountSteps syncWork downWork unmountWorkBy unmountWork mountPlan openedFrom mountDone mount orElse putPlace placeIn runIn putPlan putContent editWork putRun putWork put removePlan removeWork remove get list free bothPlan land grown syncDone sync unmountDone unmount
 sheet = refl
 
 -- and so do these
 pub sheet-others : all others ≡ true
-unfolding all others run sameLine hasLine isAnswer isReport stepsDone ten four inRun every pairwise firstAt eqList part over splice setPart pad wordAt words wordBytes sec setSec applySteps copySteps gN gF geoOk countOf geoOf tableFrom tableOf stampOf alive showing stampOk deadBelow tableOk tableIn asIs sameStamp standing becomesOld versionOf versionBytes newOf oldOf nameBytes entryOf entryBytes shownBytes shown goodName nameOf nameOk sectorsFor runOk versionOk entryOk changed sectorEntries entriesFrom entriesOf spotsFrom spotOf setEntry gone apart named bitAt putDigit putBit setRun bitsN bitsOf clearIn clearBits merge allClear findRun lowestRun runFor outside wanted bitsOk bytesToS pageOk freshPage indexOf indexBytes indexIn pairOk indexOk shownPage pageIn changedIndex pageBefore changedPages changeBits guard need ended refused done consFile filesOf cover contentOf runOf runAt getPlan getEnd listPlan listEnd viewOk soundIn shapeOk sound blockBytes freshIndex freshCard makePlan make filesIn filesShown pageShown readPlan read readList readGet ownStamp presentView presentTable cutTable presentPage cutPage presentFiles sessionFiles sizesOk headOk wordOk stampAtMost entryAtMost fitsIn fits setCount setWord tableSector mountSteps syncSteps atTop downSteps unmountStepsBy unmountSteps syncWork downWork unmountWorkBy unmountWork mountPlan openedFrom mountDone mount orElse putPlace placeIn runIn putPlan putContent editWork putRun putWork put removePlan removeWork remove get list free bothPlan land grown syncDone sync unmountDone unmount
+unfolding all others run sameLine hasLine isAnswer isReport stepsDone ten four inRun every pairwise firstAt eqList part over splice setPart pad wordAt words wordBytes sec setSec applySteps copySteps gN gP gDir gF geoOk countOf geoOf tableFrom tableOf stampOf alive showing stampOk deadBelow tableOk tableIn asIs sameStamp standing becomesOld versionOf versionBytes newOf oldOf nameBytes entryOf entryBytes shownBytes shown goodName nameOf nameOk sectorsFor runOk versionOk entryOk changed sectorEntries entriesFrom entriesOf spotsFrom spotOf setEntry gone apart named bitAt putDigit putBit setRun bitsN bitsOf clearIn clearBits merge allClear findRun lowestRun runFor outside wanted bitsOk bytesToS pageOk dataFrom dataTo freshPage indexOf groupBytes groupOf everyGroup indexIn pairOk groupOk indexOk shownPage pageAt mapFrom pageIn changedIndex pageBefore changedRun changeRun changeBits guard need ended refused done consFile filesOf cover contentOf runOf runAt getPlan getEnd listPlan listEnd viewOk soundIn shapeOk sound blockBytes freshGroup freshGroups freshIndex freshPages freshCard makePlan make filesIn filesShown pageShown readPlan read readList readGet ownStamp presentView presentTable cutTable presentPage cutPage presentFiles sessionFiles sizesOk headOk wordOk stampAtMost entryAtMost groupAtMost indexAtMost fitsIn fits setCount setWord tableSector mountSteps syncSteps atTop downSteps unmountStepsBy unmountSteps syncWork downWork unmountWorkBy unmountWork mountPlan openedFrom mountDone mount orElse putPlace placeIn runIn putPlan putContent editWork putRun putWork put removePlan removeWork remove get list free bothPlan land grown syncDone sync unmountDone unmount
 sheet-others = refl

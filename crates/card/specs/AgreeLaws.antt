@@ -2,7 +2,7 @@
 use mathlib.Core.Path.{_≡_, refl}
 use mathlib.Core.Bool.{true, not, _&&_, _||_}
 use mathlib.Core.List.{List, [], _∷_}
-use mathlib.Core.Logic.{⊎-elim, _≢_}
+use mathlib.Core.Logic.{_≢_}
 use Prim.Native.Nat.{ℕ, _+_, _≤_, _<_}
 use native.Mathlib.Omega.{arith}
 use lib.ListN.{drop}
@@ -13,6 +13,7 @@ use Rattle.sectors.specs.Sectors.{Cells}
 use Rattle.counts.specs.declared.Geo.{Geo}
 use Rattle.counts.specs.Geometry.{gN, countOf, tableOf}
 use Rattle.counts.specs.Stamps.{stampOf, tableOk}
+use Rattle.counts.specs.TableLaws.{past-index}
 use Rattle.counts.specs.GeoLaws.{table-same, dead-mono, table-inv, table-next}
 use Rattle.entries.specs.declared.Version.{Version}
 use Rattle.entries.specs.declared.Version.the-variants.{Absent, Present}
@@ -20,7 +21,8 @@ use Rattle.entries.specs.Entries.{shown, isAbsent, nameOf, entryOk}
 use Rattle.entries.specs.PassLaws.{passes, passes-intro}
 use Rattle.directory.specs.Directory.{entriesOf, gone, apart}
 use Rattle.directory.specs.SpotLaws.{entries-same}
-use Rattle.apages.specs.Index.{indexIn, shownPage, pageIn}
+use Rattle.apages.specs.Index.{groupOf, indexIn, shownPage, pageAt, pageIn}
+use Rattle.apages.specs.MapLaws.{map-same}
 use Rattle.apages.specs.PassLaws.{index-inv, index-intro}
 use Rattle.card.specs.Reading.{filesIn}
 use Rattle.card.specs.Sound.{viewOk, soundIn}
@@ -39,7 +41,7 @@ view-mono g b b′ tab k l h =
     let x = index-inv g b tab (indexIn g k) (w .index) in
     view-intro g b′ tab k
     (record {
-      index = index-intro g b′ tab (indexIn g k) (record { stamp = x .stamp; dead = dead-mono b b′ tab (stampOf (indexIn g k)) l (x .dead); zeros = x .zeros; pair = x .pair });
+      index = index-intro g b′ tab (indexIn g k) (record { groups = λ p h. let y = x .groups p h in record { stamp = y .stamp; dead = dead-mono b b′ tab (stampOf (groupOf (indexIn g k) p)) l (y .dead); pair = y .pair }; zeros = x .zeros });
       entries = every-weaker (entryOk g b tab) (entryOk g b′ tab) (entriesOf g k) (λ p q. entry-mono g b b′ tab p l q) (w .entries);
       page = w .page;
     })
@@ -67,16 +69,16 @@ alone-first tp tc (p ∷ ps) h =
 
 module _ (g : Geo) (k k′ : Cells) (x : ℕ) (low : x ≤ g .t) (other : (i : ℕ) → i ≢ x → k′ i ≡ k i) where
   pub entries-agree : entriesOf g k′ ≡ entriesOf g k
-  entries-agree = entries-same g k k′ (λ i lo hi. other i (omega arith))
+  entries-agree = entries-same g k k′ (λ i lo hi. other i (omega (arith, past-index g)))
 
   pub index-agree : indexIn g k′ ≡ indexIn g k
   unfolding indexIn
   index-agree = other (g .t + 1) (omega arith)
 
   page-agree : (bound : ℕ) (tab : List ℕ) → View g bound tab k → pageIn g tab k′ ≡ pageIn g tab k
-  unfolding pageIn
   page-agree bound tab w =
-      rw index-agree (other (shownPage tab (indexIn g k)) (⊎-elim (λ q. omega (arith, q)) (λ q. omega (arith, q)) (view-page g bound tab k w)))
+      map-same g tab tab k k′
+      (λ p l. (unfold pageAt in rw index-agree (other (shownPage tab (groupOf (indexIn g k) p)) (λ e. omega (arith, view-page g bound tab k w p l .0)))))
 
   pub view-agree : (bound : ℕ) (tab : List ℕ) → viewOk g bound tab k ≡ true → viewOk g bound tab k′ ≡ true
   view-agree bound tab h =

@@ -1,13 +1,13 @@
 -- "A fresh card": it has the right shape and its geometry, is sound, and shows no file. Assumes nothing.
-use mathlib.Core.Path.{_≡_, refl}
-use mathlib.Core.Bool.{true}
+use mathlib.Core.Path.{_≡_, refl, ap, _∙_}
+use mathlib.Core.Bool.{true, cond}
 use mathlib.Core.List.{[]}
 use mathlib.Core.Logic.{inl, inr}
-use Prim.Native.Nat.{ℕ, _+_}
+use Prim.Native.Nat.{ℕ, _+_, _*_, _/_, _%_, _<_}
 use native.Mathlib.Omega.{arith}
 use borrow.Author.Tests.{lt-ltb, le-leb, eq-eqb}
 use lib.Dec.{leb}
-use lib.ListN.{drop, getD, replicate}
+use lib.ListN.{length, drop, getD, replicate}
 use Rattle.words.specs.Lists.{every, pairwise, isZero}
 use Rattle.words.specs.Bytes.{wordAt}
 use Rattle.words.specs.BoolLaws.{join, or-intro}
@@ -15,18 +15,25 @@ use Rattle.words.specs.EveryMore.{every-drop, zero-at, every-replicate, pairwis
 use Rattle.words.specs.FourWords.{four-first, four-second, four-third, four-fourth, four-rest}
 use Rattle.sectors.specs.Sectors.{Cells, sec}
 use Rattle.counts.specs.declared.Geo.{Geo}
-use Rattle.counts.specs.Geometry.{gN, geoOk, geoOf, countOf, tableOf}
-use Rattle.counts.specs.Stamps.{maxTx, stampOf, showing, tableOk, stampOk, deadBelow}
+use Rattle.counts.specs.Geometry.{gN, gP, geoOk, geoOf, countOf, tableOf}
+use Rattle.counts.specs.Stamps.{maxTx, stampOf, showing, tableOk}
 use Rattle.entries.specs.Entries.{entryOk}
 use Rattle.directory.specs.Directory.{entriesOf, apart}
-use Rattle.apages.specs.Runs.{freshPage}
-use Rattle.apages.specs.Index.{indexBytes, indexIn, pairOk, indexOk, shownPage, pageIn}
+use Rattle.apages.specs.Bits.{bitAt}
+use Rattle.apages.specs.Runs.{outside, wanted, pageOk, freshPage}
+use Rattle.apages.specs.declared.Index.{Index}
+use Rattle.apages.specs.Index.{indexOf, groupOf, indexIn, indexOk, shownPage, pageAt, pageIn}
+use Rattle.apages.specs.IndexLaws.{index-back}
+use Rattle.apages.specs.PassLaws.{pair-intro, index-intro}
+use Rattle.apages.specs.MapLaws.{Wide, map-length, map-bytes, map-bit}
+use Rattle.card.specs.FreshPage.{page-length, fresh-bytes, fresh-bit}
+use Rattle.card.specs.PageIs.{bits-page}
 use Rattle.counts.specs.GeoLaws.{Limits, limits}
 use Rattle.card.specs.BlankLaws.{zero-max, e₀, noStamp, alive-blank, stamp-blank, dead-blank, entry-blank, apart-blank, no-files}
-use Rattle.card.specs.FreshSectors.{page-good, fresh-length, at-zero, at-index, at-page, zero-table, blank-dir}
-use Rattle.card.specs.Files.{filesOf}
+use Rattle.card.specs.FreshSectors.{fresh-group, fresh-rest, fresh-length, at-zero, at-index, at-page, zero-table, blank-dir}
+use Rattle.card.specs.Files.{filesOf, cover}
 use Rattle.card.specs.Sound.{viewOk, soundIn, shapeOk, sound}
-use Rattle.card.specs.Make.{blockBytes, freshIndex, freshCard}
+use Rattle.card.specs.Make.{blockBytes, freshGroup, freshCard}
 use Rattle.card.specs.Reading.{filesIn, filesShown}
 
 module _ (g : Geo) (ok : geoOk g ≡ true) where
@@ -70,38 +77,58 @@ module _ (g : Geo) (ok : geoOk g ≡ true) where
 
   -- ---- the index
 
-  index-stamp : stampOf (indexIn g k) ≡ noStamp
-  unfolding stampOf indexIn indexBytes freshIndex
-  index-stamp =
-      rw (at-index g ok, four-first 0 0 (g .t + 2) (g .t + 3) (replicate 496 0) (omega arith), four-second 0 0 (g .t + 2) (g .t + 3) (replicate 496 0) (omega arith))
+  group-read : (p : ℕ) → p < gP g → indexOf (groupOf (indexIn g k) p) ≡ freshGroup g p
+  unfolding indexIn freshGroup
+  group-read p h =
+      rw (at-index g ok, fresh-group g p h)
+      (index-back (freshGroup g p) (omega arith) (omega arith) (omega (arith, L .tHigh, L .few)) (omega (arith, L .tHigh, L .few)))
 
-  index-a : wordAt (indexIn g k) 8 ≡ g .t + 2
-  unfolding indexIn indexBytes freshIndex
-  index-a = rw (at-index g ok) (four-third 0 0 (g .t + 2) (g .t + 3) (replicate 496 0) (omega (arith, L .tHigh)))
+  group-stamp : (p : ℕ) → p < gP g → stampOf (groupOf (indexIn g k) p) ≡ noStamp
+  unfolding indexOf freshGroup
+  group-stamp p h = ap (λ (x : Index). x .stamp) (group-read p h)
 
-  index-b : wordAt (indexIn g k) 12 ≡ g .t + 3
-  unfolding indexIn indexBytes freshIndex
-  index-b = rw (at-index g ok) (four-fourth 0 0 (g .t + 2) (g .t + 3) (replicate 496 0) (omega (arith, L .tHigh)))
+  group-a : (p : ℕ) → p < gP g → wordAt (groupOf (indexIn g k) p) 8 ≡ g .t + 2 + 2 * p
+  unfolding indexOf freshGroup
+  group-a p h = ap (λ (x : Index). x .a .0) (group-read p h)
 
-  index-rest : every isZero (drop 16 (indexIn g k)) ≡ true
-  unfolding indexIn indexBytes freshIndex
-  index-rest = rw (at-index g ok, four-rest 0 0 (g .t + 2) (g .t + 3) (replicate 496 0)) (zeros-zero 496)
-
-  pair-good : pairOk g (g .t + 2) (g .t + 3) ≡ true
-  unfolding pairOk
-  pair-good = or-intro _ _ (inl (join _ _ (eq-eqb (g .t + 2) (g .t + 2) refl) (eq-eqb (g .t + 3) (g .t + 3) refl)))
+  group-b : (p : ℕ) → p < gP g → wordAt (groupOf (indexIn g k) p) 12 ≡ g .t + 3 + 2 * p
+  unfolding indexOf freshGroup
+  group-b p h = ap (λ (x : Index). x .b .0) (group-read p h)
 
   index-good : indexOk g 0 (tableOf g k) (indexIn g k) ≡ true
-  unfolding indexOk
   index-good =
-      let a : stampOk g (stampOf (indexIn g k)) ≡ true = rw index-stamp (stamp-blank g ok) in
-      let b : deadBelow 0 (tableOf g k) (stampOf (indexIn g k)) ≡ true = rw index-stamp (dead-blank 0 (tableOf g k)) in
-      let c : pairOk g (wordAt (indexIn g k) 8) (wordAt (indexIn g k) 12) ≡ true = rw (index-a, index-b) pair-good in
-      join _ _ (join _ _ (join _ _ a b) index-rest) c
+      index-intro g 0 (tableOf g k) (indexIn g k)
+      (record {
+        groups = λ p h. record {
+          stamp = rw (group-stamp p h) (stamp-blank g ok);
+          dead = rw (group-stamp p h) (dead-blank 0 (tableOf g k));
+          pair = rw (group-a p h, group-b p h) (pair-intro g p _ _ (inl (refl, refl)));
+        };
+        zeros = (unfold indexIn in rw (at-index g ok) (fresh-rest g));
+      })
 
-  shows-page : pageIn g (tableOf g k) k ≡ freshPage g
-  unfolding pageIn shownPage showing
-  shows-page = rw (index-stamp, alive-blank (tableOf g k), index-a) (at-page g ok)
+  shows-page : (p : ℕ) → p < gP g → pageAt g (tableOf g k) k p ≡ freshPage g p
+  unfolding pageAt shownPage showing
+  shows-page p h = rw (group-stamp p h, alive-blank (tableOf g k), group-a p h) (at-page g ok p h)
+
+  -- ---- the map
+
+  wide : Wide g (tableOf g k) k
+  wide p h = rw (shows-page p h) (page-length g p)
+
+  map-bits : (n : ℕ) → n < 8 * length (pageIn g (tableOf g k) k) → bitAt (pageIn g (tableOf g k) k) n ≡ wanted g (cover []) n
+  unfolding wanted cover
+  map-bits n l =
+      let e : 4096 * (n / 4096) + n % 4096 ≡ n = omega arith in
+      let h : n / 4096 < gP g = omega (arith, map-length g (tableOf g k) k wide) in
+      let f : bitAt (pageAt g (tableOf g k) k (n / 4096)) (n % 4096) ≡ cond (outside g (4096 * (n / 4096) + n % 4096)) 1 0 =
+      rw (shows-page (n / 4096) h) (fresh-bit g (record { s = L .sHigh; t = L .tHigh; d = L .dHigh }) (n / 4096) (n % 4096) (omega arith)) in
+      rw e at (map-bit g (tableOf g k) k wide (n / 4096) (n % 4096) h (omega arith) ∙ f)
+
+  page-good : pageOk g (cover []) (pageIn g (tableOf g k) k) ≡ true
+  page-good =
+      bits-page g (cover []) (pageIn g (tableOf g k) k) (omega (arith, map-length g (tableOf g k) k wide, L .covered))
+      (λ j past. map-bytes g (tableOf g k) k (λ p h i. rw (shows-page p h) (fresh-bytes g p i)) j) map-bits
 
   -- ---- the whole
 
@@ -113,7 +140,7 @@ module _ (g : Geo) (ok : geoOk g ≡ true) where
   view-good =
       let a : every (entryOk g 0 (tableOf g k)) (entriesOf g k) ≡ true =
       rw (blank-dir g ok .1) (every-replicate (entryOk g 0 (tableOf g k)) e₀ (blank-dir g ok .0) (entry-blank g 0 (tableOf g k) ok)) in
-      join _ _ index-good (join _ _ a (rw (no-file, shows-page) (page-good g ok)))
+      join _ _ index-good (join _ _ a (rw no-file page-good))
 
   sound-in : soundIn g k ≡ true
   unfolding soundIn

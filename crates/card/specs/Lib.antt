@@ -15,6 +15,7 @@ pub mod RuleLaws
 pub mod AgreeLaws
 pub mod MakeLaws
 pub mod BuiltLaws
+pub mod FreshPage
 pub mod PageIs
 pub mod CoverLaws
 pub mod Tally
@@ -22,8 +23,12 @@ pub mod TallyLaws
 pub mod TallyTests
 pub mod LineLaws
 pub mod ViewLaws
+pub mod TallyPages
 pub mod SoundTests
 pub mod ReadLaws
+pub mod OnePair
+pub mod OneChange
+pub mod PageTests
 pub mod Means
 pub mod MeansParts
 pub mod MeansBits

@@ -17,14 +17,14 @@ use Rattle.words.specs.Bytes.{wordAt}
 use Rattle.words.specs.BoolLaws.{both, never}
 use Rattle.sectors.specs.Sectors.{sec}
 use Rattle.counts.specs.declared.Geo.{Geo}
-use Rattle.counts.specs.Geometry.{gF}
+use Rattle.counts.specs.Geometry.{gF, inPage}
 use Rattle.entries.specs.declared.Run.{Run}
 use Rattle.entries.specs.declared.Version.{Version}
 use Rattle.entries.specs.declared.Version.the-variants.{Absent, Present}
 use Rattle.entries.specs.Entries.{shown, isAbsent, nameBytes, sectorsFor, runOk}
 use Rattle.entries.specs.PassLaws.{run-room, run-is}
 use Rattle.directory.specs.Directory.{entriesOf}
-use Rattle.directory.specs.DirectoryLaws.{placeOf, entry-at, entries-lt}
+use Rattle.directory.specs.DirectoryLaws.{placeOf, entry-part, entries-lt}
 use Rattle.card.specs.declared.Line.{Line}
 use Rattle.card.specs.Files.{consFile, filesOf, runOf, runAt, contentOf, noLine}
 use Rattle.card.specs.CoverLaws.{RunsOk}
@@ -37,23 +37,20 @@ shows tab p = bit (not (isAbsent (shown tab p)))
 unfoldable pub lineOf : List ℕ → Run → Line
 lineOf p r = record { size = wordAt p 8; name = nameBytes p; run = r }
 
--- ---- the bytes that code lends for entry j
+-- ---- the bytes that code lends for entry j, whose place is a
 
-module _ (g : Geo) (img : List ℕ) (j : ℕ) (h : j < 4 * g .d) where
-  pub entry-lent : take (placeOf g j + 128 - placeOf g j) (drop (placeOf g j) img) ≡ getD (entriesOf g (sec img)) j []
-  entry-lent = let z : placeOf g j + 128 - placeOf g j ≡ 128 = omega arith in rw z (sym (entry-at g img j h))
-
-  pub run-here : (tab : List ℕ) {v : Version} {r : Run} → v ≡ shown tab (take (placeOf g j + 128 - placeOf g j) (drop (placeOf g j) img)) → r ≡ runOf v → r ≡ runAt g tab img j
+module _ (g : Geo) (img : List ℕ) (j a : ℕ) (q : a ≡ placeOf g j) (h : j < 4 * g .d) where
+  pub run-here : (tab : List ℕ) {v : Version} {r : Run} → v ≡ shown tab (take (a + 128 - a) (drop a img)) → r ≡ runOf v → r ≡ runAt g tab img j
   unfolding runAt
-  run-here tab e f = f ∙ ap runOf (e ∙ ap (shown tab) entry-lent)
+  run-here tab e f = f ∙ ap runOf (e ∙ ap (shown tab) (entry-part g img j a q h))
 
-  pub shows-here : (tab : List ℕ) {v : Version} {b : Bool} {n : ℕ} → v ≡ shown tab (take (placeOf g j + 128 - placeOf g j) (drop (placeOf g j) img)) → b ≡ isAbsent v → n ≡ bit (not b)
+  pub shows-here : (tab : List ℕ) {v : Version} {b : Bool} {n : ℕ} → v ≡ shown tab (take (a + 128 - a) (drop a img)) → b ≡ isAbsent v → n ≡ bit (not b)
       → n ≡ shows tab (getD (entriesOf g (sec img)) j [])
   unfolding shows
-  shows-here tab e f k = k ∙ ap (λ (t : Bool). bit (not t)) (f ∙ ap isAbsent (e ∙ ap (shown tab) entry-lent))
+  shows-here tab e f k = k ∙ ap (λ (t : Bool). bit (not t)) (f ∙ ap isAbsent (e ∙ ap (shown tab) (entry-part g img j a q h)))
 
-  pub line-here : (r : Run) {l : Line} → l ≡ lineOf (take (placeOf g j + 128 - placeOf g j) (drop (placeOf g j) img)) r → l ≡ lineOf (getD (entriesOf g (sec img)) j []) r
-  line-here r e = e ∙ ap (λ (p : List ℕ). lineOf p r) entry-lent
+  pub line-here : (r : Run) {l : Line} → l ≡ lineOf (take (a + 128 - a) (drop a img)) r → l ≡ lineOf (getD (entriesOf g (sec img)) j []) r
+  line-here r e = e ∙ ap (λ (p : List ℕ). lineOf p r) (entry-part g img j a q h)
 
 -- ---- one turn of a loop over the entries, and its end
 
@@ -133,7 +130,7 @@ content-room : (g : Geo) (r : Run) → runOk g r ≡ true → 512 * r .start .0 
 unfolding runOk sectorsFor
 content-room g r ok =
     let e : r .sectors ≡ (r .bytes + 511) / 512 =
-    eqb-true _ _ (both (eqb (r .sectors) ((r .bytes + 511) / 512)) (cond (isZero (r .sectors)) (isZero (r .start .0)) (leb (gF g) (r .start .0) && leb (r .start .0 + r .sectors) (g .s))) ok .0) in
+    eqb-true _ _ (both (eqb (r .sectors) ((r .bytes + 511) / 512)) (cond (isZero (r .sectors)) (isZero (r .start .0)) (leb (gF g) (r .start .0) && leb (r .start .0 + r .sectors) (g .s) && inPage (r .start .0) (r .sectors))) ok .0) in
     omega (arith, run-room g r (run-is g r ok))
 
 pub room-here : (g : Geo) (tab img : List ℕ) (j : ℕ) (r : Run) → RunsOk g tab (entriesOf g (sec img)) → j < 4 * g .d → length img ≡ 512 * g .s → r ≡ runAt g tab img j

@@ -1,37 +1,49 @@
 -- "A fresh card", and make. Assumes nothing.
 use mathlib.Core.Bool.{_&&_}
-use mathlib.Core.List.{List, _++_}
-use Prim.Native.Nat.{ℕ, _+_, _*_}
+use mathlib.Core.List.{List, [], _++_}
+use Prim.Native.Nat.{ℕ, zero, suc, _+_, _*_}
 use lib.ListN.{length, replicate}
 use lib.Dec.{eqb}
+use Rattle.words.specs.Lists.{pad}
 use Rattle.words.specs.Bytes.{wordBytes}
 use Rattle.sectors.specs.Sectors.{setSec}
 use Rattle.counts.specs.declared.Geo.{Geo}
-use Rattle.counts.specs.Geometry.{geoOk}
+use Rattle.counts.specs.Geometry.{gP, geoOk}
 use Rattle.apages.specs.declared.Index.{Index}
 use Rattle.apages.specs.Runs.{freshPage}
-use Rattle.apages.specs.Index.{indexBytes}
+use Rattle.apages.specs.Index.{groupBytes}
 use Rattle.card.specs.Plan.{Plan, guard, ended, doIt, refused, done, Changed}
 
 -- "transaction block: words C (crash count), S, T, D; the rest 0"
 unfoldable pub blockBytes : ℕ → Geo → List ℕ
 blockBytes C g = wordBytes C ++ wordBytes (g .s) ++ wordBytes (g .t) ++ wordBytes (g .d) ++ replicate 496 0
 
--- "index 0, 0, T+2, T+3"
-unfoldable pub freshIndex : Geo → Index
-freshIndex g =
+-- group p of a fresh index: "0, 0, T + 2 + 2p, T + 3 + 2p"
+unfoldable pub freshGroup : Geo → ℕ → Index
+freshGroup g p =
     record {
       stamp = record { cc = record { 0 = 0 }; txc = record { 0 = 0 } };
-      a = record { 0 = g .t + 2 };
-      b = record { 0 = g .t + 3 };
+      a = record { 0 = g .t + 2 + 2 * p };
+      b = record { 0 = g .t + 3 + 2 * p };
     }
 
--- "C = 0, table 0, index 0, 0, T+2, T+3, both apages showing the data free, directory and data zero"
+-- n groups from p on
+unfoldable pub freshGroups : Geo → ℕ → ℕ → List ℕ
+freshGroups g p zero = []
+freshGroups g p (suc n) = groupBytes (freshGroup g p) ++ freshGroups g (suc p) n
+
+-- "the index holds P groups", and "the rest 0"
+unfoldable pub freshIndex : Geo → List ℕ
+freshIndex g = pad 512 (freshGroups g 0 (gP g))
+
+-- both pages of n pairs from p on, "showing the data free"
+unfoldable pub freshPages : Geo → ℕ → ℕ → List ℕ → List ℕ
+freshPages g p zero img = img
+freshPages g p (suc n) img = freshPages g (suc p) n (setSec (setSec img (g .t + 2 + 2 * p) (freshPage g p)) (g .t + 3 + 2 * p) (freshPage g p))
+
+-- "C = 0, table 0, index .., both apages showing the data free, directory and data zero"
 unfoldable pub freshCard : Geo → List ℕ
-freshCard g =
-    setSec (setSec (setSec (setSec (replicate (512 * g .s) 0) 0 (blockBytes 0 g)) (g .t + 1) (indexBytes (freshIndex g))) (g .t + 2) (freshPage g))
-    (g .t + 3)
-    (freshPage g)
+freshCard g = freshPages g 0 (gP g) (setSec (setSec (replicate (512 * g .s) 0) 0 (blockBytes 0 g)) (g .t + 1) (freshIndex g))
 
 -- "make 1"
 unfoldable pub makePlan : Geo → List ℕ → Plan

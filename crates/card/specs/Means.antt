@@ -3,25 +3,25 @@
 use mathlib.Core.Path.{_≡_}
 use mathlib.Core.List.{List, []}
 use mathlib.Core.Logic.{_⊎_, _≢_, _↔_}
-use Prim.Native.Nat.{ℕ, _+_, _*_, _≤_, _<_}
+use Prim.Native.Nat.{ℕ, _+_, _*_, _/_, _≤_, _<_}
 use lib.ListN.{length, getD}
 use Rattle.words.specs.Bytes.{wordAt}
 use Rattle.sectors.specs.Sectors.{sec}
 use Rattle.counts.specs.declared.Geo.{Geo}
 use Rattle.counts.specs.declared.Stamp.{Stamp}
-use Rattle.counts.specs.Geometry.{gN, gF, geoOf, countOf, tableOf}
+use Rattle.counts.specs.Geometry.{gN, gP, gF, geoOf, countOf, tableOf}
 use Rattle.counts.specs.Stamps.{stampOf}
 use Rattle.entries.specs.declared.Run.{Run}
 use Rattle.entries.specs.declared.Version.the-variants.{Absent, Present}
 use Rattle.entries.specs.Entries.{nameBytes, nameOf, shownBytes, shown}
 use Rattle.directory.specs.Directory.{entriesOf}
 use Rattle.apages.specs.Bits.{bitAt}
-use Rattle.apages.specs.Index.{indexIn, pageIn}
+use Rattle.apages.specs.Index.{groupOf, indexIn, pageAt}
 use Rattle.card.specs.Files.{runOf}
 
--- "S at most 4,096; T table sectors, 1 to 512; .. D directory sectors, 1 to 64; F = T + 4 + D; S must be at least F + 1"
+-- "S may reach 65,536"; "T table sectors, 1 to 512; .. D directory sectors, 1 to 64"; "F = T + 2 + 2P + D"; "S must be at least F + 1"
 pub record InLimits (g : Geo) : Type 0 where
-  pub sMost : g .s ≤ 4096
+  pub sMost : g .s ≤ 65536
   pub tLeast : 1 ≤ g .t
   pub tMost : g .t ≤ 512
   pub dLeast : 1 ≤ g .d
@@ -42,11 +42,15 @@ pub record GoodName (n : List ℕ) : Type 0 where
 
 -- every entry, by its index
 abbrev pub Each : Geo → List ℕ → (List ℕ → Type 0) → Type 0
-Each g img P = (i : ℕ) → i < length (entriesOf g (sec img)) → P (getD (entriesOf g (sec img)) i [])
+Each g img Q = (i : ℕ) → i < length (entriesOf g (sec img)) → Q (getD (entriesOf g (sec img)) i [])
 
--- every stamp: the index has one, and so has every entry
+-- every group of the index, with its number: "the index holds P groups of cc, txc, A, B"
+abbrev pub EachGroup : Geo → List ℕ → (ℕ → List ℕ → Type 0) → Type 0
+EachGroup g img Q = (p : ℕ) → p < gP g → Q p (groupOf (indexIn g (sec img)) p)
+
+-- every stamp: each group has one, and so has every entry
 abbrev pub EachStamp : Geo → List ℕ → (Stamp → Type 0) → Type 0
-EachStamp g img P = P (stampOf (indexIn g (sec img))) × Each g img (λ p. P (stampOf p))
+EachStamp g img Q = EachGroup g img (λ p x. Q (stampOf x)) × Each g img (λ e. Q (stampOf e))
 
 -- all bytes from `from` on are 0
 abbrev pub ZerosFrom : ℕ → List ℕ → Type 0
@@ -100,6 +104,10 @@ Inside g tab p = (r : Run) → shown tab p ≡ Present r → 1 ≤ r .sectors �
 abbrev pub Holds : List ℕ → List ℕ → ℕ → Type 0
 Holds tab p n = (runOf (shown tab p) .start .0 ≤ n) × (n < runOf (shown tab p) .start .0 + runOf (shown tab p) .sectors)
 
+-- the pages "cover sectors 4,096p to 4,096p + 4,095, and no run crosses out of one": all sectors of the file have one page
+abbrev pub OnePage : List ℕ → List ℕ → Type 0
+OnePage tab p = (m n : ℕ) → Holds tab p m → Holds tab p n → m / 4096 ≡ n / 4096
+
 -- some entry's file holds it
 abbrev pub Held : Geo → List ℕ → List ℕ → ℕ → Type 0
 Held g tab img n = (i : ℕ) × (i < length (entriesOf g (sec img))) × Holds tab (getD (entriesOf g (sec img)) i []) n
@@ -113,13 +121,18 @@ NoTwoAlike g img Here =
 
 -- ---- the index and the apages
 
--- "A and B are T+2 and T+3, in either order"
-abbrev pub AandB : Geo → List ℕ → Type 0
-AandB g ix = ((wordAt ix 8 ≡ g .t + 2) × (wordAt ix 12 ≡ g .t + 3)) ⊎ ((wordAt ix 8 ≡ g .t + 3) × (wordAt ix 12 ≡ g .t + 2))
+-- "Pair p is T + 2 + 2p and T + 3 + 2p, stamped by group p": A and B of group p, in either order
+abbrev pub AandB : Geo → ℕ → List ℕ → Type 0
+AandB g p x =
+    ((wordAt x 8 ≡ g .t + 2 + 2 * p) × (wordAt x 12 ≡ g .t + 3 + 2 * p)) ⊎ ((wordAt x 8 ≡ g .t + 3 + 2 * p) × (wordAt x 12 ≡ g .t + 2 + 2 * p))
 
--- "the shown apage has set exactly the bits below F, from S up, and of the sectors of shown files"
+-- sector n has to have its bit set: "the bits below F, from S up, and of the sectors of shown files"
+abbrev pub Taken : Geo → List ℕ → List ℕ → ℕ → Type 0
+Taken g tab img n = (n < gF g) ⊎ ((g .s ≤ n) ⊎ Held g tab img n)
+
+-- the shown apage of each pair "has set exactly" those bits; "its pages cover sectors 4,096p to 4,096p + 4,095"
 abbrev pub Bits : Geo → List ℕ → List ℕ → Type 0
-Bits g tab img = (n : ℕ) → n < 4096 → (bitAt (pageIn g tab (sec img)) n ≡ 1) ↔ ((n < gF g) ⊎ ((g .s ≤ n) ⊎ Held g tab img n))
+Bits g tab img = (p i : ℕ) → p < gP g → i < 4096 → (bitAt (pageAt g tab (sec img) p) i ≡ 1) ↔ Taken g tab img (4096 * p + i)
 
 -- "each in one file"
 abbrev pub OneFile : Geo → List ℕ → List ℕ → Type 0
@@ -127,22 +140,23 @@ OneFile g tab img =
     (n i j : ℕ) → i < length (entriesOf g (sec img)) → j < length (entriesOf g (sec img))
     → Holds tab (getD (entriesOf g (sec img)) i []) n → Holds tab (getD (entriesOf g (sec img)) j []) n → i ≡ j
 
--- what lies past S in the shown apage is made of bytes: true of every image that is lent
+-- what lies past S in the shown apages is made of bytes: true of every image that is lent
 abbrev pub Bytes : Geo → List ℕ → List ℕ → Type 0
-Bytes g tab img = (j : ℕ) → g .s ≤ 8 * j → getD (pageIn g tab (sec img)) j 0 < 256
+Bytes g tab img = (p j : ℕ) → p < gP g → g .s ≤ 4096 * p + 8 * j → getD (pageAt g tab (sec img) p) j 0 < 256
 
 -- ---- the entry, index and bitmap rules, in the view that takes the table as `tab`
 
 pub record View (g : Geo) (tab img : List ℕ) : Type 0 where
   pub stamps : EachStamp g img (Ranged g)
-  pub pair : AandB g (indexIn g (sec img))
+  pub pair : EachGroup g img (AandB g)
   pub formed : Each g img (λ p. WellFormed (shownBytes tab p))
   pub names : Each g img (λ p. ShowsFile tab p → Named p)
   pub inside : Each g img (Inside g tab)
+  pub inPage : Each g img (OnePage tab)
   pub bits : Bits g tab img
   pub oneFile : OneFile g tab img
   pub bytes : Bytes g tab img
-  pub indexRest : ZerosFrom 16 (indexIn g (sec img))
+  pub indexRest : ZerosFrom (16 * gP g) (indexIn g (sec img))
   pub entryRest : Each g img (ZerosFrom 76)
 
 -- ---- "A card is sound when all of this holds", of an image of the right shape
@@ -172,18 +186,20 @@ pub record Sound (img : List ℕ) : Type 0 where
   -- "every cc is below N, every txc at most 2,147,483,647, and a dead stamp has cc below C"
   pub stamps : EachStamp (G img) img (Ranged (G img))
   pub dead : EachStamp (G img) img (DeadBelow (C img) (tab img))
-  -- "A and B are T+2 and T+3, in either order"
-  pub pair : AandB (G img) (indexIn (G img) (sec img))
+  -- "Pair p is T + 2 + 2p and T + 3 + 2p", A and B "in either order"
+  pub pair : EachGroup (G img) img (AandB (G img))
   -- "every shown version is well formed, shown present files have good names, no two alike, and lie inside the data"
   pub formed : Each (G img) img (λ p. WellFormed (shownBytes (tab img) p))
   pub names : Each (G img) img (λ p. ShowsFile (tab img) p → Named p)
   pub alone : NoTwoAlike (G img) img (ShowsFile (tab img))
   pub inside : Each (G img) img (Inside (G img) (tab img))
+  -- "and no run crosses out of one (such a card is not sound)"
+  pub inPage : Each (G img) img (OnePage (tab img))
   -- "the shown apage has set exactly the bits below F, from S up, and of the sectors of shown files, each in one file"
   pub bits : Bits (G img) (tab img) img
   pub oneFile : OneFile (G img) (tab img) img
   pub bytes : Bytes (G img) (tab img) img
   -- "The words named above as zero are [judged]": the rest of sector 0, of the index and of each entry
   pub headRest : ZerosFrom 16 (sec img 0)
-  pub indexRest : ZerosFrom 16 (indexIn (G img) (sec img))
+  pub indexRest : ZerosFrom (16 * gP (G img)) (indexIn (G img) (sec img))
   pub entryRest : Each (G img) img (ZerosFrom 76)

@@ -1,9 +1,9 @@
--- What the bitmap's test means: the shown apage has set exactly the bits of the paper, each sector in one file. Assumes nothing.
+-- What the bitmap's test means: the shown apages have set exactly the bits of the paper, each sector in one file. Assumes nothing.
 use mathlib.Core.Path.{_≡_, refl, sym, ap, _∙_}
 use mathlib.Core.Bool.{true}
 use mathlib.Core.List.{List, [], _∷_}
-use mathlib.Core.Logic.{_⊎_, inl, inr, ⊎-elim}
-use Prim.Native.Nat.{ℕ, zero, suc, _+_, _-_, _/_, _≤_, _<_}
+use mathlib.Core.Logic.{_⊎_, inl, inr, ⊎-elim, _↔_}
+use Prim.Native.Nat.{ℕ, zero, suc, _+_, _-_, _*_, _/_, _%_, _≤_, _<_}
 use native.Mathlib.Omega.{arith}
 use native.Mathlib.Decide.{decLt}
 use borrow.Author.Tests.{eqb-true}
@@ -16,7 +16,7 @@ use Rattle.words.specs.BoolLaws.{both}
 use Rattle.words.specs.EveryLaws.{every-at}
 use Rattle.sectors.specs.Sectors.{sec}
 use Rattle.counts.specs.declared.Geo.{Geo}
-use Rattle.counts.specs.Geometry.{gF, geoOk}
+use Rattle.counts.specs.Geometry.{gP, gF, geoOk}
 use Rattle.counts.specs.GeoLaws.{Limits, limits}
 use Rattle.entries.specs.declared.Version.{Version}
 use Rattle.entries.specs.declared.Version.the-variants.{Absent, Present}
@@ -25,12 +25,13 @@ use Rattle.directory.specs.Directory.{entriesOf}
 use Rattle.apages.specs.Bits.{bitAt, bitsOf}
 use Rattle.apages.specs.BitLaws.{bit-lt}
 use Rattle.apages.specs.Runs.{wanted, bitsOk, isFull, bytesToS, pageOk}
-use Rattle.apages.specs.Index.{pageIn}
+use Rattle.apages.specs.Index.{pageAt, pageIn}
+use Rattle.apages.specs.MapLaws.{Wide, map-length, map-byte, map-bit}
 use Rattle.card.specs.Files.{filesOf, cover, runOf}
 use Rattle.card.specs.CoverLaws.{cover-none, cover-entry}
 use Rattle.card.specs.BitmapLaws.{InData, in-data, wanted-in, wanted-out, page-bits}
 use Rattle.card.specs.PageIs.{bits-page}
-use Rattle.card.specs.Means.{Each, Inside, Holds, Held, Bits, OneFile, Bytes}
+use Rattle.card.specs.Means.{Each, Inside, Holds, Held, Taken, Bits, OneFile, Bytes}
 
 -- ---- how often a sector is held
 
@@ -92,7 +93,7 @@ module _ (tab : List ℕ) where
 
 -- ---- the bitmap
 
-module _ (g : Geo) (tab img : List ℕ) (ok : geoOk g ≡ true) (wide : length (pageIn g tab (sec img)) ≡ 512) (inside : Each g img (Inside g tab)) where
+module _ (g : Geo) (tab img : List ℕ) (ok : geoOk g ≡ true) (wide : Wide g tab (sec img)) (inside : Each g img (Inside g tab)) where
   abbrev es : List (List ℕ)
   es = entriesOf g (sec img)
 
@@ -105,6 +106,9 @@ module _ (g : Geo) (tab img : List ℕ) (ok : geoOk g ≡ true) (wide : length (
   L : Limits g
   L = limits g ok
 
+  long : length page ≡ 512 * gP g
+  long = map-length g tab (sec img) wide
+
   -- a file holds sectors of the data only
   holds-data : (n i : ℕ) → i < length es → Holds tab (getD es i []) n → InData g n
   holds-data n i l h = go (shown tab (getD es i [])) refl
@@ -115,28 +119,40 @@ module _ (g : Geo) (tab img : List ℕ) (ok : geoOk g ≡ true) (wide : length (
           let (a, b) : (r .start .0 ≤ n) × (n < r .start .0 + r .sectors) = (unfold runOf in (rw e at h)) in
           let (x, y) = inside i l r e (omega arith) in (omega arith, omega arith)
 
-  bit-is : pageOk g held page ≡ true → (n : ℕ) → n < 4096 → bitAt page n ≡ wanted g held n
-  bit-is h n l = page-bits g held page (omega (arith, wide, L .sHigh)) h n (omega (arith, wide))
+  bit-is : pageOk g held page ≡ true → (n : ℕ) → n < 4096 * gP g → bitAt page n ≡ wanted g held n
+  bit-is h n l = page-bits g held page (omega (arith, long, L .covered)) h n (omega (arith, long))
+
+  -- the rule, sector by sector over the whole map
+  abbrev InMap : Type 0
+  InMap = (n : ℕ) → n < 4096 * gP g → (bitAt page n ≡ 1) ↔ Taken g tab img n
+
+  to-map : Bits g tab img → InMap
+  to-map b n l =
+      let e : 4096 * (n / 4096) + n % 4096 ≡ n = omega arith in
+      rw (sym (map-bit g tab (sec img) wide (n / 4096) (n % 4096) (omega arith) (omega arith)), e) at (b (n / 4096) (n % 4096) (omega arith) (omega arith))
+
+  from-map : InMap → Bits g tab img
+  from-map b p i l k = rw (map-bit g tab (sec img) wide p i l k) at (b (4096 * p + i) (omega arith))
 
   pub page-says : pageOk g held page ≡ true → Bits g tab img × OneFile g tab img
-  page-says h = (λ n l. (to n l (in-data g n), from n l (in-data g n)), λ n i j li lj x y. once-one tab es n (few n (holds-data n i li x)) i j li lj x y)
+  page-says h = (from-map (λ n l. (to n l (in-data g n), from n l (in-data g n))), λ n i j li lj x y. once-one tab es n (few n (holds-data n i li x)) i j li lj x y)
     where
       few : (n : ℕ) → InData g n → held n ≤ 1
-      few n d = omega (arith, bit-is h n (omega (arith, d .1, L .sHigh)), wanted-in g held n d, bit-lt page n)
+      few n d = omega (arith, bit-is h n (omega (arith, d .1, L .covered)), wanted-in g held n d, bit-lt page n)
 
-      to : (n : ℕ) → n < 4096 → Dec (InData g n) → bitAt page n ≡ 1 → (n < gF g) ⊎ ((g .s ≤ n) ⊎ Held g tab img n)
+      to : (n : ℕ) → n < 4096 * gP g → Dec (InData g n) → bitAt page n ≡ 1 → Taken g tab img n
       to n l (yes d) e = inr (inr (held-some tab es n (omega (arith, bit-is h n l, wanted-in g held n d))))
       to n l (no o) e = out (decLt n (gF g))
         where
-          out : Dec (n < gF g) → (n < gF g) ⊎ ((g .s ≤ n) ⊎ Held g tab img n)
+          out : Dec (n < gF g) → Taken g tab img n
           out (yes a) = inl a
           out (no a) = past (decLt n (g .s))
             where
-              past : Dec (n < g .s) → (n < gF g) ⊎ ((g .s ≤ n) ⊎ Held g tab img n)
+              past : Dec (n < g .s) → Taken g tab img n
               past (yes b) = absurd (o (omega arith, b))
               past (no b) = inr (inl (omega arith))
 
-      from : (n : ℕ) → n < 4096 → Dec (InData g n) → (n < gF g) ⊎ ((g .s ≤ n) ⊎ Held g tab img n) → bitAt page n ≡ 1
+      from : (n : ℕ) → n < 4096 * gP g → Dec (InData g n) → Taken g tab img n → bitAt page n ≡ 1
       from n l (no o) w = bit-is h n l ∙ wanted-out g held n o
       from n l (yes d) (inl a) = absurd (omega (arith, d .0))
       from n l (yes d) (inr (inl a)) = absurd (omega (arith, d .1))
@@ -144,9 +160,9 @@ module _ (g : Geo) (tab img : List ℕ) (ok : geoOk g ≡ true) (wide : length (
           omega (arith, bit-is h n l, wanted-in g held n d, few n d, some-held tab es n (w .0) (w .1) (w .2))
 
   -- bytes past S are 255
-  pub page-bytes : pageOk g held page ≡ true → Bytes g tab img
+  byte-small : pageOk g held page ≡ true → (j : ℕ) → g .s ≤ 8 * j → getD page j 0 < 256
   unfolding pageOk bytesToS
-  page-bytes h j l = go (decLt j (length page))
+  byte-small h j l = go (decLt j (length page))
     where
       full : every isFull (drop ((g .s + 7) / 8) page) ≡ true
       full = both (bitsOk g held 0 (bitsOf (take ((g .s + 7) / 8) page))) _ h .1
@@ -161,13 +177,33 @@ module _ (g : Geo) (tab img : List ℕ) (ok : geoOk g ≡ true) (wide : length (
           let y : getD page j 0 ≡ 255 = sym (getD-drop ((g .s + 7) / 8) page (j - (g .s + 7) / 8) 0 ∙ ap (λ (i : ℕ). getD page i 0) e) ∙ x in
           omega arith
 
-  pub says-page : Bits g tab img → OneFile g tab img → Bytes g tab img → pageOk g held page ≡ true
-  says-page bits one bytes = bits-page g held page (omega (arith, L .sHigh, wide)) bytes (λ n l. go n (omega (arith, wide)) (in-data g n))
+  pub page-bytes : pageOk g held page ≡ true → Bytes g tab img
+  page-bytes h p j l k = go (decLt j 512)
     where
-      go : (n : ℕ) → n < 4096 → Dec (InData g n) → bitAt page n ≡ wanted g held n
+      go : Dec (j < 512) → getD (pageAt g tab (sec img) p) j 0 < 256
+      go (yes a) = rw (map-byte g tab (sec img) wide p j l a) at (byte-small h (512 * p + j) (omega arith))
+      go (no o) = let e : getD (pageAt g tab (sec img) p) j 0 ≡ 0 = List·getD-eq-default (pageAt g tab (sec img) p) 0 (omega (arith, wide p l)) in omega arith
+
+  bytes-map : Bytes g tab img → (j : ℕ) → g .s ≤ 8 * j → getD page j 0 < 256
+  bytes-map b j l = go (decLt j (512 * gP g))
+    where
+      go : Dec (j < 512 * gP g) → getD page j 0 < 256
+      go (yes a) =
+          let e : 512 * (j / 512) + j % 512 ≡ j = omega arith in
+          rw (sym (map-byte g tab (sec img) wide (j / 512) (j % 512) (omega arith) (omega arith)), e) at (b (j / 512) (j % 512) (omega arith) (omega arith))
+      go (no o) = let e : getD page j 0 ≡ 0 = List·getD-eq-default page 0 (omega (arith, long)) in omega arith
+
+  pub says-page : Bits g tab img → OneFile g tab img → Bytes g tab img → pageOk g held page ≡ true
+  says-page rule one bytes =
+      bits-page g held page (omega (arith, long, L .covered)) (bytes-map bytes) (λ n l. go n (omega (arith, long)) (in-data g n))
+    where
+      bits : InMap
+      bits = to-map rule
+
+      go : (n : ℕ) → n < 4096 * gP g → Dec (InData g n) → bitAt page n ≡ wanted g held n
       go n l (no o) = bits n l .1 (out (decLt n (gF g))) ∙ sym (wanted-out g held n o)
         where
-          out : Dec (n < gF g) → (n < gF g) ⊎ ((g .s ≤ n) ⊎ Held g tab img n)
+          out : Dec (n < gF g) → Taken g tab img n
           out (yes a) = inl a
           out (no a) = inr (past (decLt n (g .s)))
             where
@@ -176,7 +212,7 @@ module _ (g : Geo) (tab img : List ℕ) (ok : geoOk g ≡ true) (wide : length (
               past (no b) = inl (omega arith)
       go n l (yes d) = is (decLt 0 (held n)) ∙ sym (wanted-in g held n d)
         where
-          clear : (n < gF g) ⊎ ((g .s ≤ n) ⊎ Held g tab img n) → 1 ≤ held n
+          clear : Taken g tab img n → 1 ≤ held n
           clear (inl a) = absurd (omega (arith, d .0))
           clear (inr (inl a)) = absurd (omega (arith, d .1))
           clear (inr (inr w)) = some-held tab es n (w .0) (w .1) (w .2)

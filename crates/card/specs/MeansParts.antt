@@ -1,37 +1,38 @@
 -- What the tests of limits, names, stamps, tables, versions and entries mean: each holds exactly when its clauses do. Assumes nothing.
-use mathlib.Core.Path.{_≡_, refl, sym, ap, _∙_}
+use mathlib.Core.Path.{_≡_, refl, _∙_}
 use mathlib.Core.Bool.{Bool, true, false, cond, _&&_, _||_}
-use mathlib.Core.List.{List, []}
+use mathlib.Core.List.{List}
 use mathlib.Core.Logic.{_⊎_, inl, inr, ⊎-elim, _≢_, _↔_}
-use Prim.Native.Nat.{ℕ, _+_, _-_, _*_, _/_, _≤_, _<_}
+use Prim.Native.Nat.{ℕ, _+_, _-_, _/_, _%_, _≤_, _<_}
 use native.Mathlib.Omega.{arith}
 use native.Mathlib.Decide.{decLt}
 use borrow.Author.Tests.{leb-true, ltb-true, le-leb, lt-ltb, eqb-true, eq-eqb, eqb-false}
 use lib.Dec.{leb, ltb, eqb}
-use lib.ListN.{length, take, drop, getD, length-drop, List·getD-eq-default}
+use lib.ListN.{length, take, drop, getD, List·getD-eq-default}
 use lib.Seq.{getD-drop}
-use Rattle.words.specs.Lists.{every, pairwise, isZero, eqList}
+use Rattle.words.specs.Lists.{every, isZero}
 use Rattle.words.specs.Bytes.{wordAt}
-use Rattle.words.specs.BoolLaws.{both, join, or-intro, or-cases, falsum, never}
+use Rattle.words.specs.BoolLaws.{both, join, or-intro, or-cases}
 use Rattle.words.specs.EveryLaws.{every-at, every-all}
 use Rattle.words.specs.EveryMore.{zero-at}
 use Rattle.counts.specs.declared.Geo.{Geo}
 use Rattle.counts.specs.declared.Stamp.{Stamp}
-use Rattle.counts.specs.Geometry.{gN, gF, geoOk}
+use Rattle.counts.specs.Geometry.{gN, gF, geoOk, inPage}
 use Rattle.counts.specs.GeoLaws.{limits, table-inv}
 use Rattle.counts.specs.Stamps.{maxTx, wordMax, stampOf, alive, stampOk, deadBelow, tableOk}
 use Rattle.entries.specs.declared.Run.{Run}
 use Rattle.entries.specs.declared.Version.{Version}
 use Rattle.entries.specs.declared.Version.the-variants.{Absent, Present}
 use Rattle.entries.specs.Entries.{versionOf, shownBytes, shown, isAbsent, goodByte, goodName, nameBytes, nameOf, nameOk, sectorsFor, runOk, versionOk, entryOk}
-use Rattle.entries.specs.PassLaws.{Passes, passes, passes-intro, good-name, run-is, shown-run}
+use Rattle.entries.specs.PassLaws.{passes, passes-intro, good-name, run-is, shown-run}
 use Rattle.directory.specs.NameLaws.{is-present, present-is}
-use Rattle.card.specs.Means.{InLimits, GoodBytes, GoodName, ZerosFrom, Alive, Ranged, DeadBelow, Stored, FourZeros, WellFormed, Named, Inside}
+use Rattle.card.specs.Files.{runOf}
+use Rattle.card.specs.Means.{InLimits, GoodBytes, GoodName, ZerosFrom, Ranged, DeadBelow, WellFormed, Named, Inside, OnePage}
 
 -- ---- the limits
 
 pub limits-mean : (g : Geo) → (geoOk g ≡ true) ↔ InLimits g
-unfolding geoOk gF
+unfolding geoOk
 limits-mean g = (to, from)
   where
     to : geoOk g ≡ true → InLimits g
@@ -43,7 +44,7 @@ limits-mean g = (to, from)
     from L =
         join _ _
         (join _ _ (join _ _ (join _ _ (join _ _ (le-leb _ _ (L .sMost)) (le-leb _ _ (L .tLeast))) (le-leb _ _ (L .tMost))) (le-leb _ _ (L .dLeast))) (le-leb _ _ (L .dMost)))
-        (lt-ltb (g .t + 4 + g .d) (g .s) (omega (arith, L .sLeast)))
+        (lt-ltb (gF g) (g .s) (omega (arith, L .sLeast)))
 
 -- ---- names and zeros
 
@@ -140,7 +141,25 @@ module _ (g : Geo) (C : ℕ) (tab : List ℕ) where
 not-zero : (n : ℕ) → eqb n 0 ≡ false → 1 ≤ n
 not-zero n e = let o : ¬ (n ≡ 0) = eqb-false n 0 e in omega arith
 
--- the 16 bytes of the version that an entry shows: well formed, and inside the data
+-- the run of a shown file lies in one page
+page-one : (g : Geo) (tab p : List ℕ) → versionOk g (shownBytes tab p) ≡ true → OnePage tab p
+page-one g tab p h = go (shown tab p) refl
+  where
+    go : (v : Version) → shown tab p ≡ v → OnePage tab p
+    go Absent e m n a b = let (x, y) : (0 ≤ m) × (m < 0 + 0) = (unfold runOf in (rw e at a)) in absurd (omega arith)
+    go (Present r) e m n a b =
+        let (x, y) : (r .start .0 ≤ m) × (m < r .start .0 + r .sectors) = (unfold runOf in (rw e at a)) in
+        let (z, w) : (r .start .0 ≤ n) × (n < r .start .0 + r .sectors) = (unfold runOf in (rw e at b)) in
+        omega (arith, shown-run g tab p h e .page)
+
+one-page : (tab p : List ℕ) (r : Run) → shown tab p ≡ Present r → 1 ≤ r .sectors → OnePage tab p → r .start .0 % 4096 + r .sectors ≤ 4096
+unfolding runOf
+one-page tab p r e l h =
+    let q : r .start .0 / 4096 ≡ (r .start .0 + r .sectors - 1) / 4096 =
+    h (r .start .0) (r .start .0 + r .sectors - 1) (rw e (omega arith, omega arith)) (rw e (omega arith, omega arith)) in
+    omega arith
+
+-- the 16 bytes of the version that an entry shows: well formed, inside the data and in one page
 module _ (g : Geo) (tab p : List ℕ) where
   abbrev v : List ℕ
   v = shownBytes tab p
@@ -170,17 +189,19 @@ module _ (g : Geo) (tab p : List ℕ) where
             empty = λ z. let y : wordAt v 8 ≡ 0 = omega arith in (R .empty y, y);
           })
 
-  version-ok : WellFormed v → Inside g tab p → versionOk g v ≡ true
+  version-ok : WellFormed v → Inside g tab p → OnePage tab p → versionOk g v ≡ true
   unfolding versionOk runOk sectorsFor shown versionOf
-  version-ok (inl z) o = rw (z .0, z .1, z .2, z .3)
-  version-ok (inr S) o = rw (S .state) (join _ _ (eq-eqb (wordAt v 8) ((wordAt v 12 + 511) / 512) (omega (arith, S .enough, S .noMore))) (go (eqb (wordAt v 8) 0) refl))
+  version-ok (inl z) o q = rw (z .0, z .1, z .2, z .3)
+  version-ok (inr S) o q = rw (S .state) (join _ _ (eq-eqb (wordAt v 8) ((wordAt v 12 + 511) / 512) (omega (arith, S .enough, S .noMore))) (go (eqb (wordAt v 8) 0) refl))
     where
       there : versionOf v ≡ Present run
       there = rw (S .state)
 
-      go : (z : Bool) → eqb (wordAt v 8) 0 ≡ z → cond (eqb (wordAt v 8) 0) (eqb (wordAt v 4) 0) (leb (gF g) (wordAt v 4) && leb (wordAt v 4 + wordAt v 8) (g .s)) ≡ true
-      go true e = rw e (eq-eqb _ _ (S .empty (let q : wordAt v 8 ≡ 0 = eqb-true (wordAt v 8) 0 e in omega (arith, S .enough)) .0))
-      go false e = let (x, y) = o run there (not-zero (wordAt v 8) e) in rw e (join _ _ (le-leb _ _ x) (le-leb _ _ y))
+      go : (z : Bool) → eqb (wordAt v 8) 0 ≡ z → cond (eqb (wordAt v 8) 0) (eqb (wordAt v 4) 0) (leb (gF g) (wordAt v 4) && leb (wordAt v 4 + wordAt v 8) (g .s) && inPage (wordAt v 4) (wordAt v 8)) ≡ true
+      go true e = rw e (eq-eqb _ _ (S .empty (let w : wordAt v 8 ≡ 0 = eqb-true (wordAt v 8) 0 e in omega (arith, S .enough)) .0))
+      go false e =
+          let (x, y) = o run there (not-zero (wordAt v 8) e) in
+          rw e (join _ _ (join _ _ (le-leb _ _ x) (le-leb _ _ y)) (le-leb _ _ (one-page tab p run there (not-zero (wordAt v 8) e) q)))
 
   name-ok : (shown tab p ≢ Absent → Named p) → (isAbsent (shown tab p) || nameOk (wordAt p 8) (nameBytes p)) ≡ true
   unfolding nameOk nameOf
@@ -213,6 +234,7 @@ module _ (g : Geo) (tab p : List ℕ) where
     pub formed : WellFormed (shownBytes tab p)
     pub name : shown tab p ≢ Absent → Named p
     pub inside : Inside g tab p
+    pub inPage : OnePage tab p
     pub rest : ZerosFrom 76 p
 
   pub entry-means : (bound : ℕ) → (entryOk g bound tab p ≡ true) ↔ EntrySays bound
@@ -227,6 +249,7 @@ module _ (g : Geo) (tab p : List ℕ) where
             formed = formed (P .wf);
             name = λ o. named (good-name g bound tab p P (is-present _ o));
             inside = λ r e. shown-run g tab p (P .wf) e .span;
+            inPage = page-one g tab p (P .wf);
             rest = zeros-mean 76 p .0 (P .zeros);
           }
 
@@ -237,6 +260,6 @@ module _ (g : Geo) (tab p : List ℕ) where
             stamp = stamp-means g (stampOf p) .1 (S .stamp);
             dead = dead-means bound tab (stampOf p) .1 (S .dead);
             zeros = zeros-mean 76 p .1 (S .rest);
-            wf = version-ok (S .formed) (S .inside);
+            wf = version-ok (S .formed) (S .inside) (S .inPage);
             name = name-ok (S .name);
           })

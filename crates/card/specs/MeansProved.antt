@@ -14,16 +14,16 @@ use Rattle.words.specs.EveryMore.{eqList-eq}
 use Rattle.sectors.specs.Sectors.{sec}
 use Rattle.sectors.specs.FlatLaws.{sec-in}
 use Rattle.counts.specs.declared.Geo.{Geo}
-use Rattle.counts.specs.Geometry.{gN, geoOk, geoOf, countOf, tableOf}
+use Rattle.counts.specs.Geometry.{gN, gP, geoOk, geoOf, countOf, tableOf}
 use Rattle.counts.specs.GeoLaws.{Limits, limits}
 use Rattle.counts.specs.TableLaws.{ok-laid, table-length}
-use Rattle.counts.specs.Stamps.{stampOf}
 use Rattle.entries.specs.declared.Version.the-variants.{Absent}
 use Rattle.entries.specs.Entries.{nameOf, shown, entryOk}
 use Rattle.directory.specs.Directory.{entriesOf, gone, apart}
 use Rattle.directory.specs.NameLaws.{gone-false, here-gone, one-entry}
-use Rattle.apages.specs.Index.{indexIn, pairOk, shownPage, pageIn}
-use Rattle.apages.specs.PassLaws.{pair-values, pair-intro, index-inv, index-intro, shown-page}
+use Rattle.apages.specs.Index.{groupOf, indexIn, pairOk, shownPage, pageAt}
+use Rattle.apages.specs.PassLaws.{pair-values, pair-intro, index-inv, index-intro, shown-before}
+use Rattle.apages.specs.MapLaws.{Wide}
 use Rattle.card.specs.Sound.{viewOk, sound}
 use Rattle.card.specs.SoundLaws.{view-inv, view-intro, sound-inv, sound-intro}
 use Rattle.card.specs.Means.{InLimits, EachStamp, DeadBelow, NoTwoAlike, View, Sound}
@@ -36,32 +36,33 @@ module _ (g : Geo) (bound : ℕ) (tab img : List ℕ) (ok : geoOk g ≡ true) (s
   abbrev ix : List ℕ
   ix = indexIn g (sec img)
 
-  page-long : pairOk g (wordAt (indexIn g (sec img)) 8) (wordAt (indexIn g (sec img)) 12) ≡ true → length (pageIn g tab (sec img)) ≡ 512
-  unfolding pageIn
-  page-long q =
+  page-wide : ((p : ℕ) → p < gP g → pairOk g p (wordAt (groupOf (indexIn g (sec img)) p) 8) (wordAt (groupOf (indexIn g (sec img)) p) 12) ≡ true) → Wide g tab (sec img)
+  unfolding pageAt
+  page-wide q p l =
       let M : Limits g = limits g ok in
-      let e : shownPage tab (indexIn g (sec img)) < g .s =
-      ⊎-elim (λ q. omega (arith, M .sLow)) (λ q. omega (arith, M .sLow)) (shown-page g tab (indexIn g (sec img)) q) in
-      sec-in img (g .s) (shownPage tab (indexIn g (sec img))) sized e
+      let r = shown-before g p tab (groupOf (indexIn g (sec img)) p) l (q p l) in
+      sec-in img (g .s) (shownPage tab (groupOf (indexIn g (sec img)) p)) sized (omega (arith, r .1, M .dir, M .sLow))
 
   pub view-says : viewOk g bound tab (sec img) ≡ true → View g tab img × EachStamp g img (DeadBelow bound tab)
   view-says h =
       let U = view-inv g bound tab (sec img) h in
       let X = index-inv g bound tab ix (U .index) in
-      let (b, o) = page-says g tab img ok (page-long (X .pair)) (λ i l. each i l .inside) (U .page) in (
+      let W = page-wide (λ p l. X .groups p l .pair) in
+      let (b, o) = page-says g tab img ok W (λ i l. each i l .inside) (U .page) in (
         record {
-          stamps = (stamp-means g (stampOf ix) .0 (X .stamp), λ i l. each i l .stamp);
-          pair = pair-values g _ _ (X .pair);
+          stamps = (λ p l. stamp-means g _ .0 (X .groups p l .stamp), λ i l. each i l .stamp);
+          pair = λ p l. pair-values g p _ _ (X .groups p l .pair);
           formed = λ i l. each i l .formed;
           names = λ i l. each i l .name;
           inside = λ i l. each i l .inside;
+          inPage = λ i l. each i l .inPage;
           bits = b;
           oneFile = o;
-          bytes = page-bytes g tab img ok (page-long (X .pair)) (λ i l. each i l .inside) (U .page);
-          indexRest = zeros-mean 16 ix .0 (X .zeros);
+          bytes = page-bytes g tab img ok W (λ i l. each i l .inside) (U .page);
+          indexRest = zeros-mean (16 * gP g) ix .0 (X .zeros);
           entryRest = λ i l. each i l .rest;
         },
-        (dead-means bound tab (stampOf ix) .0 (X .dead), λ i l. each i l .dead),
+        (λ p l. dead-means bound tab _ .0 (X .groups p l .dead), λ i l. each i l .dead),
       )
     where
       each : (i : ℕ) → i < length (entriesOf g (sec img)) → EntrySays g tab (getD (entriesOf g (sec img)) i []) bound
@@ -69,14 +70,11 @@ module _ (g : Geo) (bound : ℕ) (tab img : List ℕ) (ok : geoOk g ≡ true) (s
 
   pub says-view : View g tab img → EachStamp g img (DeadBelow bound tab) → viewOk g bound tab (sec img) ≡ true
   says-view W D =
-      let q = pair-intro g _ _ (W .pair) in
       view-intro g bound tab (sec img)
       (record {
         index = index-intro g bound tab ix (record {
-          stamp = stamp-means g (stampOf ix) .1 (W .stamps .0);
-          dead = dead-means bound tab (stampOf ix) .1 (D .0);
-          zeros = zeros-mean 16 ix .1 (W .indexRest);
-          pair = q;
+          groups = λ p l. record { stamp = stamp-means g _ .1 (W .stamps .0 p l); dead = dead-means bound tab _ .1 (D .0 p l); pair = pair-intro g p _ _ (W .pair p l) };
+          zeros = zeros-mean (16 * gP g) ix .1 (W .indexRest);
         });
         entries = every-all (entryOk g bound tab) (entriesOf g (sec img)) [] (λ i l. entry-means g tab _ bound .1 (record {
           stamp = W .stamps .1 i l;
@@ -84,9 +82,10 @@ module _ (g : Geo) (bound : ℕ) (tab img : List ℕ) (ok : geoOk g ≡ true) (s
           formed = W .formed i l;
           name = W .names i l;
           inside = W .inside i l;
+          inPage = W .inPage i l;
           rest = W .entryRest i l;
         }));
-        page = says-page g tab img ok (page-long q) (W .inside) (W .bits) (W .oneFile) (W .bytes);
+        page = says-page g tab img ok (page-wide (λ p l. pair-intro g p _ _ (W .pair p l))) (W .inside) (W .bits) (W .oneFile) (W .bytes);
       })
 
 -- ---- names
@@ -154,6 +153,7 @@ module _ (img : List ℕ) (fit : InLimits (geoOf (sec img))) (sized : length img
         names = W .names;
         alone = λ i j li lj x y e. alone-means t t g img .0 (S .alone) i j li lj (inl x) (inl y) e;
         inside = W .inside;
+        inPage = W .inPage;
         bits = W .bits;
         oneFile = W .oneFile;
         bytes = W .bytes;
@@ -177,6 +177,7 @@ module _ (img : List ℕ) (fit : InLimits (geoOf (sec img))) (sized : length img
               formed = S .formed;
               names = S .names;
               inside = S .inside;
+              inPage = S .inPage;
               bits = S .bits;
               oneFile = S .oneFile;
               bytes = S .bytes;

@@ -9,7 +9,7 @@ use Rattle.sums.specs.Sums.{inRun}
 use Rattle.words.specs.Lists.{every}
 use Rattle.words.specs.BoolLaws.{both}
 use Rattle.counts.specs.declared.Geo.{Geo}
-use Rattle.counts.specs.Geometry.{geoOk}
+use Rattle.counts.specs.Geometry.{gP, geoOk}
 use Rattle.counts.specs.GeoLaws.{Limits, limits}
 use Rattle.entries.specs.declared.Version.{Version}
 use Rattle.entries.specs.declared.Version.the-variants.{Absent, Present}
@@ -32,7 +32,7 @@ cover-version p (Present r) fs i = refl
 pub page-counts : (g : Geo) (count count′ : ℕ → ℕ) (p : List ℕ) → ((n : ℕ) → count′ n ≡ count n) → pageOk g count p ≡ true → pageOk g count′ p ≡ true
 page-counts g count count′ p e h = ap (λ (c : ℕ → ℕ). pageOk g c p) (fun-ext e) ∙ h
 
-module _ (g : Geo) (ok : geoOk g ≡ true) (count count′ : ℕ → ℕ) (p : List ℕ) (wide : length p ≡ 512) (was : pageOk g count p ≡ true) (a k b m : ℕ)
+module _ (g : Geo) (ok : geoOk g ≡ true) (count count′ : ℕ → ℕ) (p : List ℕ) (wide : length p ≡ 512 * gP g) (was : pageOk g count p ≡ true) (a k b m : ℕ)
     (sum : (n : ℕ) → count′ n + inRun b m n ≡ count n + inRun a k n)
     (fits : a + k ≤ g .s) (roomy : b + m ≤ g .s)
     (newIn : (n : ℕ) → a ≤ n → n < a + k → InData g n) (oldIn : (n : ℕ) → b ≤ n → n < b + m → InData g n)
@@ -44,27 +44,27 @@ module _ (g : Geo) (ok : geoOk g ≡ true) (count count′ : ℕ → ℕ) (p : L
   one : List ℕ
   one = setRun p a k 1
 
-  one-length : length one ≡ 512
+  one-length : length one ≡ 512 * gP g
   unfolding one
   one-length = setRun-length p a k 1 ∙ wide
 
   added : (n : ℕ) → bitAt one n ≡ bitAt p n + inRun a k n
   unfolding one
-  added = set-run p a k (omega (arith, wide, L .sHigh)) free
+  added = set-run p a k (omega (arith, wide, L .covered)) free
 
-  before : (n : ℕ) → n < 4096 → bitAt p n ≡ wanted g count n
-  before n l = page-bits g count p (omega (arith, wide, L .sHigh)) was n (omega (arith, wide))
+  before : (n : ℕ) → n < 4096 * gP g → bitAt p n ≡ wanted g count n
+  before n l = page-bits g count p (omega (arith, wide, L .covered)) was n (omega (arith, wide))
 
   set-there : (n : ℕ) → b ≤ n → n < b + m → bitAt one n ≡ 1
   set-there n lo hi =
       let q = oldIn n lo hi in
       omega
-      (arith, before n (omega (arith, q .1, L .sHigh)), wanted-in g count n q, held n, in-run b m n lo hi, added n, bit-lt one n)
+      (arith, before n (omega (arith, q .1, L .covered)), wanted-in g count n q, held n, in-run b m n lo hi, added n, bit-lt one n)
 
   taken : (n : ℕ) → bitAt (setRun one b m 0) n + inRun b m n ≡ bitAt one n
-  taken = clear-run one b m (omega (arith, one-length, roomy, L .sHigh)) set-there
+  taken = clear-run one b m (omega (arith, one-length, roomy, L .covered)) set-there
 
-  now : (n : ℕ) → n < 4096 → bitAt (setRun one b m 0) n ≡ wanted g count′ n
+  now : (n : ℕ) → n < 4096 * gP g → bitAt (setRun one b m 0) n ≡ wanted g count′ n
   now n l = go (in-data g n)
     where
       go : Dec (InData g n) → bitAt (setRun one b m 0) n ≡ wanted g count′ n
@@ -73,9 +73,9 @@ module _ (g : Geo) (ok : geoOk g ≡ true) (count count′ : ℕ → ℕ) (p : L
           omega
           (arith, taken n, added n, before n l, wanted-out g count n o, wanted-out g count′ n o, out-run a k n (λ z. o (newIn n (z .0) (z .1))), out-run b m n (λ z. o (oldIn n (z .0) (z .1))))
 
-  few : 8 * bytesToS g ≤ 4096
+  few : 8 * bytesToS g ≤ 4096 * gP g
   unfolding bytesToS
-  few = omega (arith, L .sHigh)
+  few = omega (arith, L .covered)
 
   rest : every isFull (drop (bytesToS g) p) ≡ true
   unfolding pageOk
@@ -84,5 +84,5 @@ module _ (g : Geo) (ok : geoOk g ≡ true) (count count′ : ℕ → ℕ) (p : L
   pub rule-kept : pageOk g count′ (setRun (setRun p a k 1) b m 0) ≡ true
   unfolding one
   rule-kept =
-      page-ok g count′ (setRun one b m 0) (omega (arith, setRun-length one b m 0, one-length, L .sHigh)) (λ n l. now n (omega (arith, few)))
+      page-ok g count′ (setRun one b m 0) (omega (arith, setRun-length one b m 0, one-length, L .covered)) (λ n l. now n (omega (arith, few)))
       (rw (run-rest one (bytesToS g) b m 0 (omega (arith, roomy, bytes-past g)), run-rest p (bytesToS g) a k 1 (omega (arith, fits, bytes-past g))) rest)

@@ -1,25 +1,25 @@
 -- Soundness and a view's rules taken apart, each test by its name, and put together. Assumes nothing.
 use mathlib.Core.Path.{_≡_}
-use mathlib.Core.Logic.{_⊎_}
 use mathlib.Core.Bool.{true}
 use mathlib.Core.List.{List}
 use Prim.Native.Nat.{ℕ, _+_, _*_, _≤_, _<_}
 use borrow.Author.Tests.{leb-true, le-leb, eqb-true, eq-eqb}
 use lib.Dec.{leb}
 use lib.ListN.{length, drop, getD}
+use Rattle.words.specs.Bytes.{wordAt}
 use Rattle.words.specs.Lists.{every, pairwise, isZero}
 use Rattle.words.specs.EveryLaws.{every-at}
 use Rattle.words.specs.BoolLaws.{both, join}
 use Rattle.sectors.specs.Sectors.{Cells, sec}
 use Rattle.counts.specs.declared.Geo.{Geo}
-use Rattle.counts.specs.Geometry.{gN, geoOk, geoOf, countOf, tableOf}
+use Rattle.counts.specs.Geometry.{gN, gP, gDir, geoOk, geoOf, countOf, tableOf}
 use Rattle.counts.specs.Stamps.{tableOk}
 use Rattle.entries.specs.Entries.{entryOk}
 use Rattle.entries.specs.PassLaws.{Passes, passes}
 use Rattle.directory.specs.Directory.{entriesOf, apart}
 use Rattle.apages.specs.Runs.{pageOk}
-use Rattle.apages.specs.Index.{indexIn, indexOk, shownPage, pageIn}
-use Rattle.apages.specs.PassLaws.{index-inv, shown-page}
+use Rattle.apages.specs.Index.{groupOf, indexIn, pairOk, indexOk, shownPage, pageIn}
+use Rattle.apages.specs.PassLaws.{index-inv, shown-before}
 use Rattle.card.specs.Files.{filesOf, cover}
 use Rattle.card.specs.Sound.{viewOk, soundIn, shapeOk}
 
@@ -44,9 +44,14 @@ pub entry-passes : (g : Geo) (bound : ℕ) (tab : List ℕ) (k : Cells) (j : ℕ
     → Passes g bound tab (getD (entriesOf g k) j e)
 entry-passes g bound tab k j e U h = passes g bound tab _ (every-at (entryOk g bound tab) (entriesOf g k) j e h (U .entries))
 
--- the page that a view shows is T+2 or T+3
-pub view-page : (g : Geo) (bound : ℕ) (tab : List ℕ) (k : Cells) → View g bound tab k → (shownPage tab (indexIn g k) ≡ g .t + 2) ⊎ (shownPage tab (indexIn g k) ≡ g .t + 3)
-view-page g bound tab k U = shown-page g tab (indexIn g k) (index-inv g bound tab (indexIn g k) (U .index) .pair)
+-- A and B of each group
+pub view-pair : (g : Geo) (bound : ℕ) (tab : List ℕ) (k : Cells) → View g bound tab k → (p : ℕ) → p < gP g → pairOk g p (wordAt (groupOf (indexIn g k) p) 8) (wordAt (groupOf (indexIn g k) p) 12) ≡ true
+view-pair g bound tab k U p l = index-inv g bound tab (indexIn g k) (U .index) .groups p l .pair
+
+-- the pages that a view shows lie between the index and the directory
+pub view-page : (g : Geo) (bound : ℕ) (tab : List ℕ) (k : Cells) → View g bound tab k → (p : ℕ) → p < gP g
+    → (g .t + 2 ≤ shownPage tab (groupOf (indexIn g k) p)) × (shownPage tab (groupOf (indexIn g k) p) < gDir g)
+view-page g bound tab k U p l = shown-before g p tab (groupOf (indexIn g k) p) l (view-pair g bound tab k U p l)
 
 pub record Sound (g : Geo) (k : Cells) : Type 0 where
   pub small : countOf k ≤ gN g

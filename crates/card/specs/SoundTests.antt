@@ -19,8 +19,8 @@ use Rattle.counts.specs.Geometry.{gN, gF, geoOk, geoOf, countOf, tableOf}
 use Rattle.counts.specs.Stamps.{tableIn, asIs, tableOk}
 use Rattle.counts.specs.TableLaws.{InLimits, LaidOut, ok-laid, as-is}
 use Rattle.directory.specs.Directory.{entriesOf, apart}
-use Rattle.apages.specs.Index.{indexIn, pairOk}
 use Rattle.card.specs.CoverLaws.{RunsOk}
+use Rattle.apages.specs.PassLaws.{PairIn}
 use Rattle.card.specs.ViewLaws.{passed-pair, passed-runs}
 use Rattle.card.specs.Sound.{viewOk, soundIn, shapeOk, sound}
 
@@ -29,7 +29,7 @@ use Rattle.card.specs.Sound.{viewOk, soundIn, shapeOk, sound}
 geo-one : (g : Geo) → geoOk g ≡ true → 1 ≤ g .s
 unfolding geoOk
 geo-one g h =
-    let l : gF g < g .s = ltb-true _ _ (both (leb (g .s) 4096 && leb 1 (g .t) && leb (g .t) 512 && leb 1 (g .d) && leb (g .d) 64) (ltb (gF g) (g .s)) h .1) in
+    let l : gF g < g .s = ltb-true _ _ (both (leb (g .s) 65536 && leb 1 (g .t) && leb (g .t) 512 && leb 1 (g .d) && leb (g .d) 64) (ltb (gF g) (g .s)) h .1) in
     omega arith
 
 module _ (img : List ℕ) where
@@ -109,7 +109,7 @@ sound-view img g {v} e f laid h =
 
 -- what a sound card says of the view that takes its table as it is: A and B, and the runs
 module _ (img : List ℕ) (g : Geo) {v : View} (e : g ≡ geoOf (sec img)) (f : v ≡ asIs g) (shape : shapeOk img ≡ true) (ok : sound img ≡ true) where
-  pub sound-pair : pairOk g (wordAt (indexIn g (sec img)) 8) (wordAt (indexIn g (sec img)) 12) ≡ true
+  pub sound-pair : PairIn g img
   sound-pair = passed-pair g (countOf (sec img)) (tableIn g v (sec img)) img (sound-view img g e f (shape-laid img g e shape) ok)
 
   pub sound-runs : RunsOk g (tableIn g v (sec img)) (entriesOf g (sec img))

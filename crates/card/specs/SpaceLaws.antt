@@ -2,7 +2,6 @@
 use mathlib.Core.Path.{_≡_, refl, sym, ap, _∙_}
 use mathlib.Core.Bool.{true}
 use mathlib.Core.List.{List, [], _∷_}
-use mathlib.Core.Logic.{⊎-elim}
 use Prim.Native.Nat.{ℕ, _+_, _-_, _*_, _≤_, _<_}
 use native.Mathlib.Omega.{arith}
 use lib.ListN.{length}
@@ -11,7 +10,7 @@ use Rattle.sums.specs.SumLaws.{total-add, total-run, total-zero}
 use Rattle.sectors.specs.Sectors.{sec, Cells}
 use Rattle.sectors.specs.FlatLaws.{sec-in}
 use Rattle.counts.specs.declared.Geo.{Geo}
-use Rattle.counts.specs.Geometry.{gF, geoOk, geoOf, countOf, tableOf}
+use Rattle.counts.specs.Geometry.{gF, gP, geoOk, geoOf, countOf, tableOf}
 use Rattle.counts.specs.GeoLaws.{Limits, limits}
 use Rattle.entries.specs.PassLaws.{run-room}
 use Rattle.directory.specs.Directory.{entriesOf}
@@ -19,7 +18,8 @@ use Rattle.apages.specs.Bits.{bitAt, clearBits}
 use Rattle.apages.specs.BitLaws.{bit-lt}
 use Rattle.apages.specs.RunLaws.{clear-total}
 use Rattle.apages.specs.Runs.{pageOk, wanted}
-use Rattle.apages.specs.Index.{indexIn, shownPage, pageIn}
+use Rattle.apages.specs.Index.{groupOf, indexIn, shownPage, pageAt, pageIn}
+use Rattle.apages.specs.MapLaws.{Wide, map-length}
 use Rattle.card.specs.BitmapLaws.{InData, in-data, wanted-in, wanted-out, page-bits}
 use Rattle.card.specs.FileLaws.{Within, none, more, files-within, cover-out, in-run, out-run}
 use Rattle.card.specs.SoundLaws.{View, view-page, sound-view, shape-inv}
@@ -38,23 +38,23 @@ cover-total {g} (more {f = f} {fs = fs} r w) m h =
     let a : total (inRun (f .run .start .0) (f .run .sectors)) m ≡ f .run .sectors = total-run (f .run .start .0) (f .run .sectors) m ∙ omega (arith, run-room g (f .run) r) in
     sym (total-add (inRun (f .run .start .0) (f .run .sectors)) (cover fs) (cover (f ∷ fs)) m (λ i l. refl)) ∙ omega (arith, cover-total w m h)
 
-module _ (g : Geo) (ok : geoOk g ≡ true) (fs : List Line) (p : List ℕ) (wide : length p ≡ 512) (within : Within g fs) (page : pageOk g (cover fs) p ≡ true) where
+module _ (g : Geo) (ok : geoOk g ≡ true) (fs : List Line) (p : List ℕ) (wide : length p ≡ 512 * gP g) (within : Within g fs) (page : pageOk g (cover fs) p ≡ true) where
   L : Limits g
   L = limits g ok
 
   -- the bit of a sector, and how often files hold it
   pub bit-cover : (n : ℕ) → InData g n → bitAt p n ≡ cover fs n
-  bit-cover n h = page-bits g (cover fs) p (omega (arith, wide, L .sHigh)) page n (omega (arith, wide, L .sHigh, h .1)) ∙ wanted-in g (cover fs) n h
+  bit-cover n h = page-bits g (cover fs) p (omega (arith, wide, L .covered)) page n (omega (arith, wide, L .covered, h .1)) ∙ wanted-in g (cover fs) n h
 
-  pub bit-out : (n : ℕ) → n < 4096 → ¬ InData g n → bitAt p n ≡ 1
-  bit-out n l o = page-bits g (cover fs) p (omega (arith, wide, L .sHigh)) page n (omega (arith, wide)) ∙ wanted-out g (cover fs) n o
+  pub bit-out : (n : ℕ) → n < 4096 * gP g → ¬ InData g n → bitAt p n ≡ 1
+  bit-out n l o = page-bits g (cover fs) p (omega (arith, wide, L .covered)) page n (omega (arith, wide)) ∙ wanted-out g (cover fs) n o
 
   below : gF g ≤ g .s
   unfolding gF
-  below = omega (arith, L .sLow)
+  below = omega (arith, L .sLow, L .past, L .dir)
 
   -- a sector of the data is clear, or in one file
-  each : (n : ℕ) → n < 4096 → (1 - bitAt p n) + cover fs n ≡ inRun (gF g) (g .s - gF g) n
+  each : (n : ℕ) → n < 4096 * gP g → (1 - bitAt p n) + cover fs n ≡ inRun (gF g) (g .s - gF g) n
   each n l = go (in-data g n)
     where
       go : Dec (InData g n) → (1 - bitAt p n) + cover fs n ≡ inRun (gF g) (g .s - gF g) n
@@ -65,18 +65,19 @@ module _ (g : Geo) (ok : geoOk g ≡ true) (fs : List Line) (p : List ℕ) (wide
 
   pub space : clearBits p + sectorsOf fs + gF g ≡ g .s
   space =
-      let a : clearBits p ≡ total (λ n. 1 - bitAt p n) 4096 = clear-total p ∙ ap (λ (m : ℕ). total (λ n. 1 - bitAt p n) (8 * m)) wide in
-      let b : total (λ n. 1 - bitAt p n) 4096 + total (cover fs) 4096 ≡ total (inRun (gF g) (g .s - gF g)) 4096 =
-      total-add (λ n. 1 - bitAt p n) (cover fs) (inRun (gF g) (g .s - gF g)) 4096 each in
-      omega (arith, cover-total within 4096 (L .sHigh), total-run (gF g) (g .s - gF g) 4096, below, L .sHigh)
+      let m : ℕ = 4096 * gP g in
+      let a : clearBits p ≡ total (λ n. 1 - bitAt p n) m = clear-total p ∙ ap (λ (m : ℕ). total (λ n. 1 - bitAt p n) m) (omega (arith, wide)) in
+      let b : total (λ n. 1 - bitAt p n) m + total (cover fs) m ≡ total (inRun (gF g) (g .s - gF g)) m =
+      total-add (λ n. 1 - bitAt p n) (cover fs) (inRun (gF g) (g .s - gF g)) m each in
+      omega (arith, cover-total within m (L .covered), total-run (gF g) (g .s - gF g) m, below, L .covered)
 
 -- a clear bit of a view's page is in the data, and no file of the view holds it
-pub clear-bit : (g : Geo) (bound : ℕ) (tab : List ℕ) (k : Cells) → geoOk g ≡ true → View g bound tab k → length (pageIn g tab k) ≡ 512 → (i : ℕ) → i < 4096 → bitAt (pageIn g tab k) i ≡ 0
+pub clear-bit : (g : Geo) (bound : ℕ) (tab : List ℕ) (k : Cells) → geoOk g ≡ true → View g bound tab k → length (pageIn g tab k) ≡ 512 * gP g → (i : ℕ) → i < 4096 * gP g → bitAt (pageIn g tab k) i ≡ 0
     → InData g i × (cover (filesOf tab (entriesOf g k)) i ≡ 0)
 clear-bit g bound tab k ok w l i h z = go (in-data g i)
   where
     all : bitAt (pageIn g tab k) i ≡ wanted g (cover (filesOf tab (entriesOf g k))) i
-    all = page-bits g (cover (filesOf tab (entriesOf g k))) (pageIn g tab k) (omega (arith, limits g ok .sHigh)) (w .page) i (omega arith)
+    all = page-bits g (cover (filesOf tab (entriesOf g k))) (pageIn g tab k) (omega (arith, limits g ok .covered)) (w .page) i (omega arith)
 
     go : Dec (InData g i) → InData g i × (cover (filesOf tab (entriesOf g k)) i ≡ 0)
     go (yes q) = (q, sym (wanted-in g _ i q) ∙ sym all ∙ z)
@@ -84,13 +85,15 @@ clear-bit g bound tab k ok w l i h z = go (in-data g i)
 
 -- a view that passes, on an image of the right length
 module _ (g : Geo) (bound : ℕ) (tab img : List ℕ) (ok : geoOk g ≡ true) (sized : length img ≡ 512 * g .s) (U : View g bound tab (sec img)) where
-  pub page-wide : length (pageIn g tab (sec img)) ≡ 512
-  unfolding pageIn
-  page-wide =
+  pub view-wide : Wide g tab (sec img)
+  unfolding pageAt
+  view-wide p h =
       let L : Limits g = limits g ok in
-      let e : shownPage tab (indexIn g (sec img)) < g .s =
-      ⊎-elim (λ q. omega (arith, L .sLow)) (λ q. omega (arith, L .sLow)) (view-page g bound tab (sec img) U) in
-      sec-in img (g .s) (shownPage tab (indexIn g (sec img))) sized e
+      let r = view-page g bound tab (sec img) U p h in
+      sec-in img (g .s) (shownPage tab (groupOf (indexIn g (sec img)) p)) sized (omega (arith, r .1, L .dir, L .sLow))
+
+  pub page-wide : length (pageIn g tab (sec img)) ≡ 512 * gP g
+  page-wide = map-length g tab (sec img) view-wide
 
   pub view-space : clearBits (pageIn g tab (sec img)) + sectorsOf (filesOf tab (entriesOf g (sec img))) + gF g ≡ g .s
   view-space = space g ok (filesOf tab (entriesOf g (sec img))) (pageIn g tab (sec img)) page-wide (files-within g bound tab (entriesOf g (sec img)) (U .entries)) (U .page)

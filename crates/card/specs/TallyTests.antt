@@ -3,7 +3,7 @@ use mathlib.Core.Path.{_≡_, refl, sym, _∙_}
 use mathlib.Core.Bool.{Bool, true, false, not, _||_}
 use mathlib.Core.List.{List, []}
 use mathlib.Core.Logic.{_⊎_, inl, inr, ⊎-elim}
-use Prim.Native.Nat.{ℕ, suc, _+_, _-_, _≤_, _<_}
+use Prim.Native.Nat.{ℕ, suc, _+_, _-_, _%_, _≤_, _<_}
 use native.Mathlib.Decide.{ℕ-discrete, decLe}
 use native.Mathlib.Numerals.{add-one}
 use native.Mathlib.Omega.{arith}
@@ -77,6 +77,10 @@ module _ (g : Geo) (tab : List ℕ) (es : List (List ℕ)) (runs : RunsOk g tab 
   -- the run that entry j shows ends at S or before
   pub run-below : (j : ℕ) {r : Run} → j < length es → r ≡ run j → r .start .0 + r .sectors ≤ g .s
   run-below j l e = rw e (run-room g (run j) (well j l))
+
+  -- and lies in one page
+  pub run-paged : (j : ℕ) {r : Run} → j < length es → r ≡ run j → r .start .0 % 4096 + r .sectors ≤ 4096
+  run-paged j l e = rw e (well j l .page)
 
   -- an entry whose run meets no later one
   join-row : (i : ℕ) → i < length es → every (partedFrom tab (run i)) (drop (i + 1) es) ≡ true → pairwise (partedIn tab) (drop (i + 1) es) ≡ true → pairwise (partedIn tab) (drop i es) ≡ true

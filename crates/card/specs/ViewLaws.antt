@@ -1,26 +1,31 @@
 -- The page that a view shows, and the rules of a view, test by test. Assumes nothing.
 use mathlib.Core.Path.{_≡_, sym, ap, _∙_}
-use mathlib.Core.Bool.{Bool, true, false, not, cond, _&&_}
-use mathlib.Core.List.{List}
-use Prim.Native.Nat.{ℕ, _+_, _-_, _*_, _≤_}
+use mathlib.Core.Bool.{Bool, true, false, not, _&&_}
+use mathlib.Core.List.{List, _++_}
+use Prim.Native.Nat.{ℕ, suc, _+_, _-_, _*_, _≤_, _<_}
+use native.Mathlib.Numerals.{add-one}
 use native.Mathlib.Omega.{arith}
 use borrow.Author.Tests.{not-true, not-false}
-use lib.ListN.{length, take, drop}
-use Rattle.words.specs.Lists.{every, isZero}
+use lib.ListN.{length, take, drop, length-take}
+use Rattle.words.specs.Lists.{every}
+use Rattle.counts.specs.Geometry.{gP}
 use Rattle.words.specs.Bytes.{wordAt}
 use Rattle.words.specs.BoolLaws.{both}
 use Rattle.words.specs.EveryLaws.{and-false}
 use Rattle.sectors.specs.Sectors.{sec}
 use Rattle.sectors.specs.SectorLaws.{sec-part}
 use Rattle.counts.specs.declared.Geo.{Geo}
-use Rattle.counts.specs.TableLaws.{LaidOut}
-use Rattle.counts.specs.Stamps.{stampOf, alive, showing, stampOk, deadBelow}
+use Rattle.counts.specs.TableLaws.{LaidOut, pages-few}
 use Rattle.entries.specs.Entries.{entryOk}
 use Rattle.directory.specs.Directory.{entriesOf}
-use Rattle.apages.specs.Bits.{clearBits}
+use Rattle.apages.specs.Bits.{bitsOf, clearIn, clearBits}
 use Rattle.apages.specs.Runs.{pageOk}
-use Rattle.apages.specs.Index.{indexIn, pairOk, indexOk, shownPage, pageIn}
-use Rattle.apages.specs.PageLaws.{pair-pages}
+use Rattle.apages.specs.RunLaws.{clear-most}
+use Rattle.apages.specs.Index.{groupOf, indexIn, pairOk, indexOk, shownPage, pageAt, mapFrom, pageIn}
+pub use Rattle.apages.specs.PassLaws.{PairIn}
+use Rattle.apages.specs.PassLaws.{index-inv, shown-before}
+use Rattle.apages.specs.ChangeLaws.{groupAt, group-lent}
+use Rattle.apages.specs.MapLaws.{clear-over}
 use Rattle.card.specs.Files.{filesOf, cover}
 use Rattle.card.specs.Sound.{viewOk}
 use Rattle.card.specs.CoverLaws.{RunsOk, entries-runs}
@@ -29,33 +34,52 @@ use Rattle.card.specs.CoverLaws.{RunsOk, entries-runs}
 abbrev pub lent : List ℕ → ℕ → List ℕ
 lent img i = take (512 * i + 512 - 512 * i) (drop (512 * i) img)
 
--- a page that the index names lies before the directory
-page-le : (g : Geo) (tab ix : List ℕ) → pairOk g (wordAt ix 8) (wordAt ix 12) ≡ true → shownPage tab ix ≤ g .t + 3
-unfolding shownPage showing
-page-le g tab ix h = go (alive tab (stampOf ix))
-  where
-    go : (b : Bool) → cond b (wordAt ix 8) (wordAt ix 12) ≤ g .t + 3
-    go true = pair-pages g (wordAt ix 8) (wordAt ix 12) h .0 .1
-    go false = pair-pages g (wordAt ix 8) (wordAt ix 12) h .1 .1
+-- and for group p of the index
+abbrev pub lentGroup : Geo → List ℕ → ℕ → List ℕ
+lentGroup g img p = take (groupAt g p + 16 - groupAt g p) (drop (groupAt g p) img)
 
-module _ (g : Geo) (tab img : List ℕ) {n : ℕ} where
-  pub page-here : n ≡ shownPage tab (lent img (g .t + 1)) → n ≡ shownPage tab (indexIn g (sec img))
-  unfolding indexIn
-  page-here e = e ∙ ap (shownPage tab) (sec-part img (g .t + 1))
+module _ (g : Geo) (tab img : List ℕ) (p : ℕ) {n : ℕ} where
+  pub page-here : LaidOut g img → p < gP g → n ≡ shownPage tab (lentGroup g img p) → n ≡ shownPage tab (groupOf (indexIn g (sec img)) p)
+  page-here laid l e =
+      let z : groupAt g p + 16 - groupAt g p ≡ 16 = omega arith in
+      let f : gP g ≤ 16 = pages-few g (laid .s) in
+      e ∙ ap (shownPage tab) (rw z (group-lent g img p (omega arith)))
 
-  pub page-lent : n ≡ shownPage tab (indexIn g (sec img)) → lent img n ≡ pageIn g tab (sec img)
-  unfolding pageIn
+  pub page-lent : n ≡ shownPage tab (groupOf (indexIn g (sec img)) p) → lent img n ≡ pageAt g tab (sec img) p
+  unfolding pageAt
   page-lent e = sec-part img n ∙ ap (sec img) e
 
-  pub page-room : LaidOut g img → pairOk g (wordAt (indexIn g (sec img)) 8) (wordAt (indexIn g (sec img)) 12) ≡ true → n ≡ shownPage tab (indexIn g (sec img)) → 512 * n + 512 ≤ length img
-  page-room laid h e = let l = page-le g tab (indexIn g (sec img)) h in omega (arith, laid .room)
+  pub page-room : LaidOut g img → p < gP g → PairIn g img → n ≡ shownPage tab (groupOf (indexIn g (sec img)) p) → 512 * n + 512 ≤ length img
+  page-room laid l h e = let r = shown-before g p tab (groupOf (indexIn g (sec img)) p) l (h p l) in omega (arith, r .1, laid .room, laid .dir)
 
-  pub clear-here : {r : ℕ} → n ≡ shownPage tab (indexIn g (sec img)) → r ≡ clearBits (lent img n) → r ≡ clearBits (pageIn g tab (sec img))
-  clear-here e f = f ∙ ap clearBits (page-lent e)
+-- a page has at most 4,096 clear bits
+pub clear-page : (img : List ℕ) (n : ℕ) {c : ℕ} → c ≡ clearBits (lent img n) → c ≤ 4096
+clear-page img n e =
+    let l : length (lent img n) ≤ 512 = simp length-take (omega arith) in
+    omega (arith, clear-most (lent img n))
 
-index-pair : (g : Geo) (bound : ℕ) (tab ix : List ℕ) → indexOk g bound tab ix ≡ true → pairOk g (wordAt ix 8) (wordAt ix 12) ≡ true
-unfolding indexOk
-index-pair g bound tab ix h = both (stampOk g (stampOf ix) && deadBelow bound tab (stampOf ix) && every isZero (drop 16 ix)) (pairOk g (wordAt ix 8) (wordAt ix 12)) h .1
+-- the clear bits, page by page: the loop's start, a turn, and its end
+module _ (g : Geo) (tab img : List ℕ) where
+  pub clear-start : 0 + clearBits (mapFrom g tab (sec img) 0 (gP g - 0)) ≡ clearBits (pageIn g tab (sec img))
+  unfolding pageIn
+  clear-start = let e : gP g - 0 ≡ gP g = omega arith in let z : 0 + clearBits (mapFrom g tab (sec img) 0 (gP g)) ≡ clearBits (mapFrom g tab (sec img) 0 (gP g)) = omega arith in rw e z
+
+  pub clear-turn : (p r : ℕ) {n c s : ℕ} → p < gP g → n ≡ shownPage tab (groupOf (indexIn g (sec img)) p) → c ≡ clearBits (lent img n) → r + clearBits (mapFrom g tab (sec img) p (gP g - p)) ≡ s
+      → r + c + clearBits (mapFrom g tab (sec img) (p + 1) (gP g - (p + 1))) ≡ s
+  unfolding mapFrom
+  clear-turn p r {n} l e f h =
+      let m : gP g - p ≡ suc (gP g - suc p) = omega arith in
+      let q : clearBits (pageAt g tab (sec img) p ++ mapFrom g tab (sec img) (suc p) (gP g - suc p)) ≡ clearBits (pageAt g tab (sec img) p) + clearBits (mapFrom g tab (sec img) (suc p) (gP g - suc p)) =
+      clear-over (pageAt g tab (sec img) p) (mapFrom g tab (sec img) (suc p) (gP g - suc p)) in
+      let x : clearBits (lent img n) ≡ clearBits (pageAt g tab (sec img) p) = ap clearBits (page-lent g tab img p e) in
+      rw add-one (omega (arith, q, x, f, rw m at h))
+
+  pub clear-end : (p r : ℕ) {s : ℕ} → gP g ≤ p → r + clearBits (mapFrom g tab (sec img) p (gP g - p)) ≡ s → r ≡ s
+  unfolding mapFrom clearBits bitsOf clearIn
+  clear-end p r l h = let m : gP g - p ≡ 0 = omega arith in omega (arith, rw m at h)
+
+index-pair : (g : Geo) (bound : ℕ) (tab ix : List ℕ) → indexOk g bound tab ix ≡ true → (p : ℕ) → p < gP g → pairOk g p (wordAt (groupOf ix p) 8) (wordAt (groupOf ix p) 12) ≡ true
+index-pair g bound tab ix h p l = index-inv g bound tab ix h .groups p l .pair
 
 -- ---- a view, as its tests are made: index, entries, page
 
@@ -68,7 +92,7 @@ module _ (g : Geo) (bound : ℕ) (tab img : List ℕ) {a : Bool} (e : a ≡ inde
   unfolding viewOk
   view-index n = let z : indexOk g bound tab (indexIn g (sec img)) ≡ false = sym here ∙ not-true a n in rw z
 
-  pub view-pair : not a ≡ false → pairOk g (wordAt (indexIn g (sec img)) 8) (wordAt (indexIn g (sec img)) 12) ≡ true
+  pub view-pair : not a ≡ false → PairIn g img
   view-pair n = index-pair g bound tab (indexIn g (sec img)) (sym here ∙ not-false a n)
 
   pub view-entries : {b : Bool} → b ≡ every (entryOk g bound tab) (entriesOf g (sec img)) → not b ≡ true → false ≡ viewOk g bound tab (sec img)
@@ -77,20 +101,20 @@ module _ (g : Geo) (bound : ℕ) (tab img : List ℕ) {a : Bool} (e : a ≡ inde
       let z : every (entryOk g bound tab) (entriesOf g (sec img)) ≡ false = sym f ∙ not-true b n in
       rw z (sym (and-false (indexOk g bound tab (indexIn g (sec img)))))
 
-  pub view-page : {b c : Bool} {n : ℕ} → not a ≡ false → b ≡ every (entryOk g bound tab) (entriesOf g (sec img)) → not b ≡ false
-      → n ≡ shownPage tab (indexIn g (sec img)) → c ≡ pageOk g (cover (filesOf tab (entriesOf g (sec img)))) (lent img n) → c ≡ viewOk g bound tab (sec img)
+  pub view-page : {b c : Bool} → not a ≡ false → b ≡ every (entryOk g bound tab) (entriesOf g (sec img)) → not b ≡ false
+      → c ≡ pageOk g (cover (filesOf tab (entriesOf g (sec img)))) (pageIn g tab (sec img)) → c ≡ viewOk g bound tab (sec img)
   unfolding viewOk
-  view-page {b} {c} {n} q f r d k =
+  view-page {b} {c} q f r k =
       let y : indexOk g bound tab (indexIn g (sec img)) ≡ true = sym here ∙ not-false a q in
       let z : every (entryOk g bound tab) (entriesOf g (sec img)) ≡ true = sym f ∙ not-false b r in
-      rw (y, z) (k ∙ ap (pageOk g (cover (filesOf tab (entriesOf g (sec img))))) (page-lent g tab img d))
+      rw (y, z) k
 
 pub view-runs : (g : Geo) (bound : ℕ) (tab : List ℕ) (es : List (List ℕ)) {b : Bool} → b ≡ every (entryOk g bound tab) es → not b ≡ false → RunsOk g tab es
 view-runs g bound tab es {b} f n = entries-runs g bound tab es (sym f ∙ not-false b n)
 
 -- what a view that passes says: A and B, and the runs
 module _ (g : Geo) (bound : ℕ) (tab img : List ℕ) (ok : viewOk g bound tab (sec img) ≡ true) where
-  pub passed-pair : pairOk g (wordAt (indexIn g (sec img)) 8) (wordAt (indexIn g (sec img)) 12) ≡ true
+  pub passed-pair : PairIn g img
   unfolding viewOk
   passed-pair =
       index-pair g bound tab (indexIn g (sec img)) (both (indexOk g bound tab (indexIn g (sec img))) (every (entryOk g bound tab) (entriesOf g (sec img)) && pageOk g (cover (filesOf tab (entriesOf g (sec img)))) (pageIn g tab (sec img))) ok .0)

@@ -6,6 +6,7 @@ use lib.ListN.{getD}
 use Rattle.words.specs.Lists.{part, setPart, eqList}
 use Rattle.sectors.specs.Sectors.{Cells, sec, setSec}
 use Rattle.counts.specs.declared.Geo.{Geo}
+use Rattle.counts.specs.Geometry.{gDir}
 use Rattle.entries.specs.Entries.{shown, isAbsent, nameOf}
 
 -- the four entries of a sector
@@ -17,9 +18,9 @@ unfoldable pub entriesFrom : ℕ → ℕ → Cells → List (List ℕ)
 entriesFrom i zero k = []
 entriesFrom i (suc n) k = sectorEntries (k i) ++ entriesFrom (suc i) n k
 
--- "T+4 to F−1: directory"
+-- "T+2+2P to F−1: directory"
 unfoldable pub entriesOf : Geo → Cells → List (List ℕ)
-entriesOf g k = entriesFrom (g .t + 4) (g .d) k
+entriesOf g k = entriesFrom (gDir g) (g .d) k
 
 -- where an entry lies: a sector, and which of its four
 pub record Spot : Type 0 where
@@ -33,7 +34,7 @@ spotsFrom i (suc n) =
     record { sector = i; slot = 0 } ∷ record { sector = i; slot = 1 } ∷ record { sector = i; slot = 2 } ∷ record { sector = i; slot = 3 } ∷ spotsFrom (suc i) n
 
 unfoldable pub spotOf : Geo → ℕ → Spot
-spotOf g j = getD (spotsFrom (g .t + 4) (g .d)) j (record { sector = 0; slot = 0 })
+spotOf g j = getD (spotsFrom (gDir g) (g .d)) j (record { sector = 0; slot = 0 })
 
 -- the image with an entry's bytes at a place: "One sector write."
 unfoldable pub setEntry : Spot → List ℕ → List ℕ → List ℕ

@@ -14,7 +14,7 @@ use Rattle.sectors.specs.SectorLaws.{sec-length, setSec-length, sec-same, sec-o
 use Rattle.sectors.specs.FlatLaws.{sec-in}
 use Rattle.counts.specs.declared.Geo.{Geo}
 use Rattle.counts.specs.GeoLaws.{limits}
-use Rattle.counts.specs.Geometry.{geoOk}
+use Rattle.counts.specs.Geometry.{gDir, geoOk}
 use Rattle.directory.specs.Directory.{sectorEntries, entriesFrom, entriesOf, Spot, spotsFrom, spotOf, setEntry}
 
 -- ---- an entry written into its sector
@@ -68,9 +68,9 @@ unfolding entriesFrom spotsFrom sectorEntries
 spots-length zero i k = refl
 spots-length (suc n) i k = ap (λ (x : ℕ). suc (suc (suc (suc x)))) (spots-length n (suc i) k)
 
-pub spot-here : (g : Geo) (k : Cells) (j : ℕ) → j < length (entriesOf g k) → j < length (spotsFrom (g .t + 4) (g .d))
+pub spot-here : (g : Geo) (k : Cells) (j : ℕ) → j < length (entriesOf g k) → j < length (spotsFrom (gDir g) (g .d))
 unfolding entriesOf
-spot-here g k j h = omega (arith, spots-length (g .d) (g .t + 4) k)
+spot-here g k j h = omega (arith, spots-length (g .d) (gDir g) k)
 
 pub spot-ok : (n i j : ℕ) (z : Spot) → j < length (spotsFrom i n) → SpotOk i (i + n) (getD (spotsFrom i n) j z)
 unfolding spotsFrom
@@ -95,21 +95,21 @@ spot-entry k (suc n) i (suc (suc (suc (suc j)))) z e h = spot-entry k n (suc i) 
 
 -- where entry j lies, and that it is what stands there
 pub at-spot : (g : Geo) (k : Cells) (j : ℕ) (e : List ℕ) → j < length (entriesOf g k)
-    → SpotOk (g .t + 4) (g .t + 4 + g .d) (spotOf g j) × (getD (entriesOf g k) j e ≡ getD (sectorEntries (k (spotOf g j .sector))) (spotOf g j .slot) e)
+    → SpotOk (gDir g) (gDir g + g .d) (spotOf g j) × (getD (entriesOf g k) j e ≡ getD (sectorEntries (k (spotOf g j .sector))) (spotOf g j .slot) e)
 unfolding spotOf entriesOf
-at-spot g k j e h = let l = spot-here g k j h in (spot-ok (g .d) (g .t + 4) j _ l, spot-entry k (g .d) (g .t + 4) j _ e l)
+at-spot g k j e h = let l = spot-here g k j h in (spot-ok (g .d) (gDir g) j _ l, spot-entry k (g .d) (gDir g) j _ e l)
 
 -- ---- the entries depend on the directory's sectors alone
 
-module _ (g : Geo) (k k′ : Cells) (same : (i : ℕ) → g .t + 4 ≤ i → i < g .t + 4 + g .d → k′ i ≡ k i) where
-  range-same : (n i : ℕ) → g .t + 4 ≤ i → i + n ≤ g .t + 4 + g .d → entriesFrom i n k′ ≡ entriesFrom i n k
+module _ (g : Geo) (k k′ : Cells) (same : (i : ℕ) → gDir g ≤ i → i < gDir g + g .d → k′ i ≡ k i) where
+  range-same : (n i : ℕ) → gDir g ≤ i → i + n ≤ gDir g + g .d → entriesFrom i n k′ ≡ entriesFrom i n k
   unfolding entriesFrom
   range-same zero i lo hi = refl
   range-same (suc n) i lo hi = rw (same i lo (omega arith), range-same n (suc i) (omega arith) (omega arith))
 
   pub entries-same : entriesOf g k′ ≡ entriesOf g k
   unfolding entriesOf
-  entries-same = range-same (g .d) (g .t + 4) (omega arith) (omega arith)
+  entries-same = range-same (g .d) (gDir g) (omega arith) (omega arith)
 
 -- ---- one sector's entries changed at a place: the list changes at that index, and nowhere else
 
@@ -146,4 +146,4 @@ module _ (k k′ : Cells) (d r : ℕ) (e : List ℕ) (here : sectorEntries (k′
 pub entry-wide : (g : Geo) (img : List ℕ) → geoOk g ≡ true → length img ≡ 512 * g .s → (j : ℕ) → j < length (entriesOf g (sec img)) → length (getD (entriesOf g (sec img)) j []) ≡ 128
 entry-wide g img ok l j h =
     let (S, e) = at-spot g (sec img) j [] h in
-    ap length e ∙ wide-at (sec img (spotOf g j .sector)) (spotOf g j .slot) [] (sec-in img (g .s) (spotOf g j .sector) l (omega (arith, S .high, limits g ok .sLow))) (S .four)
+    ap length e ∙ wide-at (sec img (spotOf g j .sector)) (spotOf g j .slot) [] (sec-in img (g .s) (spotOf g j .sector) l (omega (arith, S .high, limits g ok .sLow, limits g ok .past, limits g ok .dir))) (S .four)

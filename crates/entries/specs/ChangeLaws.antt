@@ -14,7 +14,7 @@ use Rattle.words.specs.WordLaws.{join-bytes}
 use Rattle.words.specs.EveryMore.{zeros-zero}
 use Rattle.counts.specs.declared.Geo.{Geo}
 use Rattle.counts.specs.declared.Stamp.{Stamp}
-use Rattle.counts.specs.Geometry.{gN, gF}
+use Rattle.counts.specs.Geometry.{gN, gF, inPage}
 use Rattle.counts.specs.GeoLaws.{Limits}
 use Rattle.counts.specs.Stamps.{maxTx, stampOf, alive, showing}
 use Rattle.counts.specs.StampLaws.{now-new, cut-old, old-cut}
@@ -52,11 +52,11 @@ run-ok : (g : Geo) (r : Run) → RunIs g r → runOk g r ≡ true
 unfolding runOk
 run-ok g r R = join _ _ (eq-eqb _ _ (R .size)) (go (r .sectors) refl)
   where
-    go : (n : ℕ) → r .sectors ≡ n → cond (eqb (r .sectors) 0) (eqb (r .start .0) 0) (leb (gF g) (r .start .0) && leb (r .start .0 + r .sectors) (g .s)) ≡ true
+    go : (n : ℕ) → r .sectors ≡ n → cond (eqb (r .sectors) 0) (eqb (r .start .0) 0) (leb (gF g) (r .start .0) && leb (r .start .0 + r .sectors) (g .s) && inPage (r .start .0) (r .sectors)) ≡ true
     go zero e = rw (eq-eqb (r .sectors) 0 e) (eq-eqb _ _ (R .empty e))
     go (suc n) e =
         let q = R .span (omega arith) in
-        rw (ne-eqb (r .sectors) 0 (omega arith)) (join _ _ (le-leb _ _ (q .0)) (le-leb _ _ (q .1)))
+        rw (ne-eqb (r .sectors) 0 (omega arith)) (join _ _ (join _ _ (le-leb _ _ (q .0)) (le-leb _ _ (q .1))) (le-leb _ _ (R .page)))
 
 -- the bytes of a good version are well formed
 pub good-ok : (g : Geo) (v : Version) → Limits g → GoodVersion g v → versionOk g (versionBytes v) ≡ true

@@ -8,7 +8,7 @@ use Rattle.words.specs.Lists.{every, isZero, pad}
 use Rattle.words.specs.Bytes.{wordAt, wordBytes}
 use Rattle.counts.specs.declared.Geo.{Geo}
 use Rattle.counts.specs.declared.Stamp.{Stamp}
-use Rattle.counts.specs.Geometry.{gF}
+use Rattle.counts.specs.Geometry.{gF, inPage}
 use Rattle.counts.specs.Stamps.{stampOf, showing, stampOk, deadBelow, standing, becomesOld}
 use Rattle.entries.specs.declared.Run.{Run}
 use Rattle.entries.specs.declared.Version.{Version}
@@ -84,11 +84,11 @@ nameOk n b = leb 1 n && leb n 32 && every goodByte (take n b) && every isZero (d
 unfoldable pub sectorsFor : ℕ → ℕ
 sectorsFor b = (b + 511) / 512
 
--- "a file of 0 bytes has start 0 and sectors 0"; shown present files "lie inside the data"
+-- "a file of 0 bytes has start 0 and sectors 0"; shown present files "lie inside the data", and "no run crosses out of" its page
 unfoldable pub runOk : Geo → Run → Bool
 runOk g r =
     eqb (r .sectors) (sectorsFor (r .bytes))
-    && cond (isZero (r .sectors)) (isZero (r .start .0)) (leb (gF g) (r .start .0) && leb (r .start .0 + r .sectors) (g .s))
+    && cond (isZero (r .sectors)) (isZero (r .start .0)) (leb (gF g) (r .start .0) && leb (r .start .0 + r .sectors) (g .s) && inPage (r .start .0) (r .sectors))
 
 -- the 16 bytes of a version are well formed
 unfoldable pub versionOk : Geo → List ℕ → Bool

@@ -2,7 +2,7 @@
 use mathlib.Core.Path.{_≡_, refl, sym, ap, _∙_}
 use mathlib.Core.Bool.{Bool, true, false, cond, _&&_, _||_}
 use mathlib.Core.List.{List, _++_}
-use Prim.Native.Nat.{ℕ, zero, suc, _+_, _-_, _*_, _/_, _≤_, _<_, _^_}
+use Prim.Native.Nat.{ℕ, zero, suc, _+_, _-_, _*_, _/_, _%_, _≤_, _<_, _^_}
 use native.Mathlib.Omega.{arith}
 use borrow.Author.Tests.{eqb-true, leb-true, eq-eqb}
 use lib.Dec.{leb, eqb}
@@ -13,7 +13,7 @@ use Rattle.words.specs.Bytes.{wordAt}
 use Rattle.words.specs.BoolLaws.{both, join, falsum, never}
 use Rattle.words.specs.EveryMore.{zeros-are}
 use Rattle.counts.specs.declared.Geo.{Geo}
-use Rattle.counts.specs.Geometry.{gF}
+use Rattle.counts.specs.Geometry.{gF, inPage}
 use Rattle.counts.specs.GeoLaws.{Limits}
 use Rattle.counts.specs.Stamps.{stampOf, stampOk, deadBelow}
 use Rattle.entries.specs.declared.Run.{Run}
@@ -70,6 +70,7 @@ pub record RunIs (g : Geo) (r : Run) : Type 0 where
   pub size : r .sectors ≡ sectorsFor (r .bytes)
   pub span : 1 ≤ r .sectors → (gF g ≤ r .start .0) × (r .start .0 + r .sectors ≤ g .s)
   pub empty : r .sectors ≡ 0 → r .start .0 ≡ 0
+  pub page : r .start .0 % 4096 + r .sectors ≤ 4096
 
 pub run-is : (g : Geo) (r : Run) → runOk g r ≡ true → RunIs g r
 unfolding runOk
@@ -78,14 +79,15 @@ run-is g r h =
     go (eqb-true _ _ a) (eqb (r .sectors) 0) refl b
   where
     go : r .sectors ≡ sectorsFor (r .bytes) → (z : Bool) → eqb (r .sectors) 0 ≡ z
-        → cond (eqb (r .sectors) 0) (eqb (r .start .0) 0) (leb (gF g) (r .start .0) && leb (r .start .0 + r .sectors) (g .s)) ≡ true → RunIs g r
+        → cond (eqb (r .sectors) 0) (eqb (r .start .0) 0) (leb (gF g) (r .start .0) && leb (r .start .0 + r .sectors) (g .s) && inPage (r .start .0) (r .sectors)) ≡ true → RunIs g r
     go a true e b =
         let x : r .start .0 ≡ 0 = eqb-true _ _ (rw e at b) in
         let y : r .sectors ≡ 0 = eqb-true _ _ e in
-        record { size = a; span = λ l. absurd (omega arith); empty = λ q. x }
+        record { size = a; span = λ l. absurd (omega arith); empty = λ q. x; page = omega arith }
     go a false e b =
-        let (u, v) = both (leb (gF g) (r .start .0)) _ (rw e at b) in
-        record { size = a; span = λ l. (leb-true _ _ u, leb-true _ _ v); empty = λ q. falsum (sym e ∙ eq-eqb _ _ q) }
+        let (w, i) = both _ (inPage (r .start .0) (r .sectors)) (rw e at b) in
+        let (u, v) = both (leb (gF g) (r .start .0)) _ w in
+        record { size = a; span = λ l. (leb-true _ _ u, leb-true _ _ v); empty = λ q. falsum (sym e ∙ eq-eqb _ _ q); page = leb-true _ _ i }
 
 pub run-holds : (g : Geo) (r : Run) → RunIs g r → r .bytes ≤ 512 * r .sectors
 unfolding sectorsFor

@@ -7,13 +7,14 @@ use Prim.Native.Nat.{ℕ, zero, suc, _+_, _-_, _*_, _≤_, _<_}
 use native.Mathlib.Omega.{arith}
 use lib.ListN.{length, take, drop, replicate}
 use lib.Seq.{take-at, take-take, split-at, set-split}
+use Rattle.counts.specs.TableLaws.{past-index, dir-data}
 use Rattle.words.specs.Lists.{every, splice, pad}
 use Rattle.words.specs.BoolLaws.{both, join}
 use Rattle.words.specs.EveryMore.{every-drop}
 use Rattle.words.specs.SpliceLaws.{range-same}
 use Rattle.sectors.specs.Sectors.{Cells, sec}
 use Rattle.counts.specs.declared.Geo.{Geo}
-use Rattle.counts.specs.Geometry.{gF, tableOf}
+use Rattle.counts.specs.Geometry.{gDir, gF, tableOf}
 use Rattle.counts.specs.GeoLaws.{Limits, table-same}
 use Rattle.entries.specs.declared.Version.{Version}
 use Rattle.entries.specs.declared.Version.the-variants.{Absent, Present}
@@ -34,7 +35,7 @@ use Rattle.promises.specs.PlainList.{Item, items, without, With, shownIn
 use Rattle.promises.specs.ListLaws.{listOf, list-absent, list-present}
 use Rattle.promises.specs.Items.{items-same}
 use Rattle.promises.specs.Alone.{Alone, quiet-before, quiet-after, without-quiet, without-one, list-append, without-append}
-use Rattle.promises.specs.Ready.{ownOf, tcOf, tpOf, entryAt, entryFor, indexFor, lim, hc, hw, pages, pres, Ready, spot, inCut, stamps}
+use Rattle.promises.specs.Ready.{ownOf, tcOf, tpOf, entryAt, entryFor, lim, hc, hw, pres, Ready, spot, inCut, stamps}
 use Rattle.promises.specs.Change.{now, data-put, left-alone, entries-now}
 
 every-take : {A : Type 0} (f : A → Bool) (n : ℕ) (l : List A) → every f l ≡ true → every f (take n l) ≡ true
@@ -86,8 +87,8 @@ module _ (s : Opened) (j a k : ℕ) (v : Version) (work n d : List ℕ) (k₀ : 
   unfolding gF
   same-table =
       table-same g (sec work) (sec after)
-      (λ i lo hi. left-alone s j a k v work n d k₀ R i (omega (arith, spot s j a k v work n d k₀ R .low)) (omega arith) (omega (arith, pages s work (R .fit) (R .live) .0))
-      (λ q. omega (arith, R .inside i (q .0) (q .1))))
+      (λ i lo hi. left-alone s j a k v work n d k₀ R i (omega (arith, spot s j a k v work n d k₀ R .low, past-index g)) (omega arith) (λ q. omega (arith, q .0))
+      (λ q. omega (arith, R .inside i (q .0) (q .1), past-index g)))
 
   pub same-tp : tpOf s after ≡ tpOf s work
   same-tp = rw same-table
@@ -127,10 +128,10 @@ module _ (s : Opened) (j a k : ℕ) (v : Version) (work n d : List ℕ) (k₀ : 
           far z = unfold gF in omega (arith, z, spot s j a k v work n d k₀ R .high)
 
           far′ : gF g ≤ i → i ≢ g .t + 1
-          far′ z = unfold gF in omega (arith, z)
+          far′ z = omega (arith, z, past-index g, dir-data g)
 
-          far″ : gF g ≤ i → i ≢ indexFor s work .a .0
-          far″ z = unfold gF in omega (arith, z, pages s work (R .fit) (R .live) .1)
+          far″ : gF g ≤ i → ¬ ((g .t + 2 ≤ i) × (i < gDir g))
+          far″ z q = omega (arith, z, q .1, dir-data g)
 
   keep-before : listOf tp after (take j es) ≡ listOf tp work (take j es)
   keep-before =

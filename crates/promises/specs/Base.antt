@@ -1,25 +1,28 @@
 -- The base of a live session: the image of the latest mount or sync; a put or remove that gives 0 keeps it. Assumes nothing.
-use mathlib.Core.Path.{_≡_, subst}
+use mathlib.Core.Path.{_≡_, refl, sym}
 use mathlib.Core.Bool.{true}
 use mathlib.Core.List.{List, []}
 use Prim.Native.Nat.{ℕ, _+_, _*_, _≤_, _<_}
 use lib.ListN.{length, getD}
 use Rattle.sectors.specs.Sectors.{sec}
-use Rattle.counts.specs.Geometry.{gN, geoOk, countOf, tableOf}
+use Rattle.counts.specs.Geometry.{gN, gF, geoOk, countOf, tableOf}
 use Rattle.counts.specs.Stamps.{maxTx}
 use Rattle.entries.specs.declared.Version.{Version}
 use Rattle.entries.specs.declared.Version.the-variants.{Absent, Present}
 use Rattle.entries.specs.Entries.{sectorsFor}
+use Rattle.apages.specs.Index.{indexIn}
 use Rattle.card.specs.Plan.{doIt}
 use Rattle.card.specs.Sound.{soundIn}
 use Rattle.card.specs.SoundLaws.{sound-view, view-page}
+use Rattle.card.specs.FileLaws.{Holds}
 use Rattle.card.specs.Reading.{filesIn}
 use Rattle.session.specs.declared.Opened.{Opened}
 use Rattle.store.specs.Edit.{putPlan, putRun, putWork, removePlan, removeWork, editWork}
 use Rattle.promises.specs.Keep.{Keeps, kept-files, tab-same}
-use Rattle.promises.specs.Edit.{Edit, edit-keeps}
+use Rattle.promises.specs.Edit.{wrote-keeps}
 use Rattle.promises.specs.Ready.{ownOf, Ready}
-use Rattle.promises.specs.Change.{change-edit, edit-length}
+use Rattle.promises.specs.Change.{edit-length}
+use Rattle.promises.specs.Writes.{wrote}
 use Rattle.promises.specs.Calls.{remove-ready, put-ready}
 use Rattle.promises.specs.Items.{base-data}
 
@@ -37,11 +40,18 @@ pub record Base (s : Opened) (img₀ : List ℕ) : Type 0 where
 module _ (s : Opened) (img₀ : List ℕ) (B : Base s img₀) (work : List ℕ) (P : (i : ℕ) → Keeps (s .geo) (ownOf s) (sec img₀) i (sec work i)) where
   change-keeps : (j a k : ℕ) (v : Version) (n d : List ℕ) → Ready s j a k v work n d (sec img₀)
       → (i : ℕ) → Keeps (s .geo) (ownOf s) (sec img₀) i (sec (editWork s j a k v work n d) i)
+  unfolding indexIn
   change-keeps j a k v n d R =
-      edit-keeps (s .geo) (ownOf s) (sec img₀) (sec work) (sec (editWork s j a k v work n d)) P
-      (view-page (s .geo) _ _ (sec img₀) (sound-view (s .geo) (sec img₀) (B .good))) (λ i h. base-data (s .geo) (sec img₀) (B .good) i h .0)
-      (subst (λ (x : List ℕ). Edit (s .geo) x (ownOf s) (sec img₀) (sec work) (sec (editWork s j a k v work n d))) (tab-same (s .geo) (ownOf s) (sec img₀) (sec work) P)
-      (change-edit s j a k v work n d (sec img₀) R))
+      λ i.
+      wrote-keeps (s .geo) (ownOf s) (sec img₀) (sec work) (sec (editWork s j a k v work n d)) P
+      (view-page (s .geo) _ _ (sec img₀) (sound-view (s .geo) (sec img₀) (B .good))) in-data i
+      (wrote s j a k v work n d (sec img₀) R (sym table) (λ p l. sym (rw table (P (s .geo .t + 1) .index refl .groups p l .page))) in-data i)
+    where
+      table : tableOf (s .geo) (sec work) ≡ tableOf (s .geo) (sec img₀)
+      table = tab-same (s .geo) (ownOf s) (sec img₀) (sec work) P
+
+      in-data : (i : ℕ) → Holds (filesIn (s .geo) (sec img₀)) i → gF (s .geo) ≤ i
+      in-data i h = base-data (s .geo) (sec img₀) (B .good) i h .0
 
   -- what a call that gives 0 leaves in the working image
   pub record Kept (work′ : List ℕ) : Type 0 where

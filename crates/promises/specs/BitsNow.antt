@@ -1,35 +1,32 @@
 -- The page that the present view shows after one change of an entry, bit by bit. Assumes nothing.
-use mathlib.Core.Path.{_≡_, refl, sym, ap, _∙_}
+use mathlib.Core.Path.{_≡_, sym, ap, _∙_}
 use mathlib.Core.List.{List, [], _∷_}
-use mathlib.Core.Logic.{⊎-elim, _≢_}
 use Prim.Native.Nat.{ℕ, zero, suc, _+_, _*_, _≤_, _<_}
 use native.Mathlib.Omega.{arith}
 use lib.Dec.{lit<}
 use lib.ListN.{length, getD, set}
 use Rattle.sectors.specs.Sectors.{sec}
 use Rattle.counts.specs.declared.Geo.{Geo}
-use Rattle.counts.specs.Geometry.{gF, tableOf}
+use Rattle.counts.specs.Geometry.{gP, gF, tableOf}
 use Rattle.counts.specs.GeoLaws.{Limits, table-same}
 use Rattle.entries.specs.declared.Run.{Run}
 use Rattle.entries.specs.declared.Version.{Version}
 use Rattle.entries.specs.Entries.{shown}
 use Rattle.directory.specs.Directory.{entriesOf}
 use Rattle.apages.specs.Bits.{bitAt, setRun}
-use Rattle.apages.specs.Index.{indexBytes, indexIn, shownPage, pageIn}
+use Rattle.apages.specs.Index.{pageIn}
 use Rattle.apages.specs.RunLaws.{setRun-length, run-in, run-out}
 use Rattle.card.specs.Files.{filesOf, cover, runOf, runAt}
 use Rattle.card.specs.FileLaws.{in-run}
 use Rattle.card.specs.RuleLaws.{cover-version}
-use Rattle.card.specs.SoundLaws.{view-page}
 use Rattle.card.specs.SpaceLaws.{page-wide}
 use Rattle.session.specs.declared.Opened.{Opened}
 use Rattle.session.specs.Views.{presentTable, presentPage}
 use Rattle.session.specs.FitLaws.{present-live}
 use Rattle.store.specs.Edit.{editWork}
 use Rattle.store.specs.EditLaws.{CanEdit}
-use Rattle.apages.specs.IndexViews.{now-page}
-use Rattle.promises.specs.Ready.{ownOf, tcOf, tpOf, indexAt, indexFor, oldRun, lim, hc, hw, pres, idxCut, idxStamp, pages, from-page, Ready, spot}
-use Rattle.promises.specs.Change.{quiet, index-now, page-now, left-alone}
+use Rattle.promises.specs.Ready.{tcOf, tpOf, oldRun, lim, pres, Ready, spot}
+use Rattle.promises.specs.Change.{map-now, left-alone}
 
 -- sector i is one of the k sectors from a on
 abbrev pub InRun : ℕ → ℕ → ℕ → Type 0
@@ -38,13 +35,6 @@ InRun a k i = (a ≤ i) × (i < a + k)
 -- the run that entry j's file held in the present view
 abbrev pub earlierRun : Opened → List ℕ → ℕ → Run
 earlierRun s work j = runAt (s .geo) (presentTable s (sec work)) work j
-
--- no sector set and none cleared
-none-set : (p : List ℕ) (a k b m : ℕ) → k + m ≡ 0 → p ≡ setRun (setRun p a k 1) b m 0
-unfolding setRun
-none-set p a zero b zero e = refl
-none-set p a zero b (suc m) e = absurd (omega arith)
-none-set p a (suc k) b m e = absurd (omega arith)
 
 -- a sector of entry j's run is held by a file of the view
 entry-held : (tab : List ℕ) (ps : List (List ℕ)) (j i : ℕ) → j < length ps
@@ -71,16 +61,13 @@ module _ (s : Opened) (j a k : ℕ) (v : Version) (work n d : List ℕ) (R : Rea
   abbrev m : ℕ
   m = oldRun s j work .sectors
 
-  abbrev shownAt : ℕ
-  shownAt = shownPage (tpOf s work) (indexAt s work)
-
   L : Limits g
   L = lim s work (R .fit) (R .live)
 
   pub same-head : (i : ℕ) → i ≤ g .t → sec after i ≡ sec work i
   unfolding gF
   same-head i h =
-      left-alone s j a k v work n d (sec work) R i (omega (arith, spot s j a k v work n d (sec work) R .low)) (omega arith) (omega (arith, pages s work (R .fit) (R .live) .0))
+      left-alone s j a k v work n d (sec work) R i (omega (arith, spot s j a k v work n d (sec work) R .low)) (omega arith) (λ q. omega (arith, q .0))
       (λ q. omega (arith, R .inside i (q .0) (q .1)))
 
   pub same-table : tableOf g (sec after) ≡ tcOf s work
@@ -93,38 +80,16 @@ module _ (s : Opened) (j a k : ℕ) (v : Version) (work n d : List ℕ) (R : Rea
   unfolding runAt
   earlier-is = rw (present-live s (sec work) (R .live))
 
-  -- ---- the page that the present view shows
-
-  page-range : (g .t + 2 ≤ shownAt) × (shownAt ≤ g .t + 3)
-  page-range = ⊎-elim (λ q. (omega (arith, q), omega (arith, q))) (λ q. (omega (arith, q), omega (arith, q))) (view-page g (s .c .0) (tpOf s work) (sec work) (pres s work (R .fit) (R .live)))
-
-  page-still : k + m ≡ 0 → sec after (g .t + 1) ≡ sec work (g .t + 1)
-      → pageIn g (tpOf s work) (sec after) ≡ setRun (setRun (pageIn g (tpOf s work) (sec work)) a k 1) b m 0
-  unfolding pageIn indexIn
-  page-still e q =
-      rw q
-      (quiet s j a k v work n d (sec work) R e shownAt (omega (arith, page-range .1, spot s j a k v work n d (sec work) R .low)) (λ z. omega (arith, z .0, z .1))
-      ∙ none-set (sec work shownAt) a k b m e)
-
-  page-moved : k + m ≢ 0 → sec after (g .t + 1) ≡ indexBytes (indexFor s work)
-      → pageIn g (tpOf s work) (sec after) ≡ setRun (setRun (pageIn g (tpOf s work) (sec work)) a k 1) b m 0
-  unfolding pageIn indexIn
-  page-moved o q =
-      rw (q, now-page g (tcOf s work) (ownOf s) (hc s work (R .fit) (R .live)) (hw s work (R .fit) (R .live)) (indexAt s work) (idxStamp s work (R .fit) (R .live)) (idxCut s work (R .fit) (R .live) .pair) L (R .fit .count) (R .fit .tx), page-now s j a k v work n d (sec work) R o, from-page s work (R .fit) (R .live))
-
-  page-is : pageIn g (tpOf s work) (sec after) ≡ setRun (setRun (pageIn g (tpOf s work) (sec work)) a k 1) b m 0
-  page-is = ⊎-elim (λ q. page-still (q .0) (q .1)) (λ q. page-moved (q .0) (q .1)) (index-now s j a k v work n d (sec work) R)
-
   -- the two bitmaps, bit by bit
   bit-now : (i : ℕ) → bitAt (presentPage s (sec after)) i ≡ bitAt (setRun (setRun (pageIn g (tpOf s work) (sec work)) a k 1) b m 0) i
   unfolding presentPage
-  bit-now i = rw (same-present, page-is)
+  bit-now i = rw (same-present, map-now s j a k v work n d (sec work) R)
 
   bit-before : (i : ℕ) → bitAt (presentPage s (sec work)) i ≡ bitAt (pageIn g (tpOf s work) (sec work)) i
   unfolding presentPage
   bit-before i = rw (present-live s (sec work) (R .live))
 
-  wide : length (pageIn g (tpOf s work) (sec work)) ≡ 512
+  wide : length (pageIn g (tpOf s work) (sec work)) ≡ 512 * gP g
   wide = page-wide g (s .c .0) (tpOf s work) work (R .fit .shape) (R .fit .sized) (pres s work (R .fit) (R .live))
 
   new-in : a + k ≤ 8 * length (pageIn g (tpOf s work) (sec work))
@@ -133,7 +98,7 @@ module _ (s : Opened) (j a k : ℕ) (v : Version) (work n d : List ℕ) (R : Rea
   old-in : b + m ≤ 8 * length (setRun (pageIn g (tpOf s work) (sec work)) a k 1)
   old-in = omega (arith, wide, setRun-length (pageIn g (tpOf s work) (sec work)) a k 1, old-top)
     where
-      old-top : b + m ≤ 4096
+      old-top : b + m ≤ 4096 * gP g
       old-top = rw earlier-is at (C .earlier)
 
   -- the content goes to none of the earlier sectors

@@ -2,7 +2,7 @@
 use mathlib.Core.Path.{_≡_, refl, sym, _∙_}
 use mathlib.Core.Bool.{false}
 use mathlib.Core.List.{List, []}
-use Prim.Native.Nat.{ℕ, _+_, _*_, _≤_, _<_}
+use Prim.Native.Nat.{ℕ, _+_, _*_, _%_, _≤_, _<_}
 use native.Mathlib.Omega.{arith}
 use lib.ListN.{length, length-take, length-drop}
 use Rattle.words.specs.declared.Found.the-variants.{At}
@@ -18,7 +18,7 @@ use Rattle.directory.specs.Directory.{entriesOf}
 use Rattle.directory.specs.SpotLaws.{entry-wide}
 use Rattle.apages.specs.Runs.{runFor}
 use Rattle.apages.specs.Index.{pageIn}
-use Rattle.apages.specs.LowestLaws.{run-for-none, run-clear, run-fits}
+use Rattle.apages.specs.LowestLaws.{run-for-none, run-page, run-clear, run-fits}
 use Rattle.card.specs.Plan.{doIt}
 use Rattle.card.specs.Files.{cover, filesOf}
 use Rattle.card.specs.FileLaws.{Holds, held-cover}
@@ -62,6 +62,7 @@ module _ (s : Opened) (work : List ℕ) (k₀ : Cells) (same-files : filesIn (s 
         named = named-is n j F (p .live) N;
         inside = λ i lo hi. absurd (omega arith);
         fits = omega arith;
+        page = omega arith;
         enough = omega arith;
         clear = λ i lo hi. absurd (omega arith);
       }
@@ -84,10 +85,11 @@ module _ (s : Opened) (work : List ℕ) (k₀ : Cells) (same-files : filesIn (s 
         live = p .live;
         below = N .below;
         short = short-name n (p .name);
-        good = good r f run;
+        good = good r f run (run-page (sectorsFor (length d)) a _ _ (wp ∙ sym wc) run);
         named = named-is n j F (p .live) N;
         inside = λ i lo hi. r i lo hi .0 .0;
         fits = f;
+        page = run-page (sectorsFor (length d)) a _ _ (wp ∙ sym wc) run;
         enough = enough;
         clear = λ i lo hi q. omega (arith, r i lo hi .1, held-cover _ i (still q));
       }
@@ -111,5 +113,6 @@ module _ (s : Opened) (work : List ℕ) (k₀ : Cells) (same-files : filesIn (s 
           → a + sectorsFor (length d) ≤ s .geo .s
           → runFor (sectorsFor (length d)) (pageIn (s .geo) (tpOf s work) (sec work)) (pageIn (s .geo) (tcOf s work) (sec work))
           ≡ At a
+          → a % 4096 + sectorsFor (length d) ≤ 4096
           → GoodVersion (s .geo) (Present (putRun a d))
-      good r f run = unfold putRun in record { size = refl; span = λ l. (r a (omega arith) (omega arith) .0 .0, f); empty = λ z. run-for-none _ a _ _ run z }
+      good r f run page = unfold putRun in record { size = refl; span = λ l. (r a (omega arith) (omega arith) .0 .0, f); empty = λ z. run-for-none _ a _ _ run z; page = page }

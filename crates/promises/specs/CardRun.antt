@@ -123,9 +123,9 @@ module _ (s : Opened) (card work : List ℕ) (p : Pending) (m : List Item) (V₀
   pub sync-can : (r : List Step) → CanAll (g .s) r (settled now) now → CanAll (g .s) (syncSteps s work r) p card
   unfolding syncSteps
   sync-can r f =
-      can-copy (g .s) work (F .sized) 1 0 _ p card (omega (arith, L .sLow)) (record { sized = V₀ .sized; held = V₀ .may }) (V₀ .top)
+      can-copy (g .s) work (F .sized) 1 0 _ p card (omega (arith, L .sLow, L .past, L .dir)) (record { sized = V₀ .sized; held = V₀ .may }) (V₀ .top)
       (λ p₁ c₁ C₁ t₁ here₁ there₁.
-      can-copy (g .s) work (F .sized) (g .s - g .t - 1) (g .t + 1) _ p₁ c₁ (omega (arith, L .sLow)) C₁ t₁
+      can-copy (g .s) work (F .sized) (g .s - g .t - 1) (g .t + 1) _ p₁ c₁ (omega (arith, L .sLow, L .past, L .dir)) C₁ t₁
       (λ p₂ c₂ C₂ t₂ here₂ there₂.
       rest r f p₂ c₂ C₂ t₂
       (image-same c₂ work (g .s) (C₂ .sized) (F .sized)
@@ -137,4 +137,4 @@ module _ (s : Opened) (card work : List ℕ) (p : Pending) (m : List Item) (V₀
           → (i : ℕ) → i < g .s → Dec (i ≤ g .t) → Dec (i ≡ 0) → sec c₂ i ≡ sec work i
       body c₁ c₂ h₁ o₁ h₂ o₂ i l (yes a) (yes z) = o₂ i (λ q. omega (arith, q .0)) ∙ h₁ i (omega arith) (omega arith)
       body c₁ c₂ h₁ o₁ h₂ o₂ i l (yes a) (no z) = o₂ i (λ q. omega (arith, q .0)) ∙ o₁ i (λ q. omega (arith, q .1)) ∙ table-old s card work p m V₀ F live i a
-      body c₁ c₂ h₁ o₁ h₂ o₂ i l (no a) d = h₂ i (omega arith) (omega (arith, L .sLow))
+      body c₁ c₂ h₁ o₁ h₂ o₂ i l (no a) d = h₂ i (omega arith) (omega (arith, L .sLow, L .past, L .dir))

@@ -2,10 +2,9 @@
 use mathlib.Core.Path.{_≡_, refl, sym, _∙_}
 use mathlib.Core.Bool.{true, false}
 use mathlib.Core.List.{List, []}
-use mathlib.Core.Logic.{_⊎_, inl, inr, ⊎-elim, _≢_}
+use mathlib.Core.Logic.{inr, _≢_}
 use Prim.Native.Nat.{ℕ, zero, suc, _+_, _≤_, _<_}
 use native.Mathlib.Omega.{arith}
-use native.Mathlib.Decide.{ℕ-discrete}
 use lib.ListN.{length, drop, getD, set}
 use Rattle.words.specs.Lists.{every, isZero, pad}
 use Rattle.words.specs.Bytes.{wordAt}
@@ -13,15 +12,16 @@ use Rattle.words.specs.BoolLaws.{All2, nil2, cons2}
 use Rattle.sectors.specs.Sectors.{Cells}
 use Rattle.counts.specs.declared.Geo.{Geo}
 use Rattle.counts.specs.declared.Stamp.{Stamp}
-use Rattle.counts.specs.Geometry.{gN, gF, tableOf}
+use Rattle.counts.specs.Geometry.{gN, gP, gF, tableOf, gDir}
+use Rattle.counts.specs.TableLaws.{past-index, dir-data}
 use Rattle.counts.specs.GeoLaws.{Limits}
 use Rattle.counts.specs.Stamps.{maxTx, stampOf}
 use Rattle.entries.specs.declared.Version.{Version}
 use Rattle.entries.specs.Entries.{nameBytes, entryOf, entryBytes, shownBytes, shown, isAbsent, versionOk, changed}
 use Rattle.entries.specs.ChangeLaws.{GoodVersion, bytes-stamp, bytes-size, bytes-name, bytes-zeros, cut-shown, cut-wf}
 use Rattle.directory.specs.Directory.{sectorEntries}
-use Rattle.apages.specs.Index.{indexIn, shownPage}
-use Rattle.apages.specs.IndexViews.{IdxSame}
+use Rattle.apages.specs.Index.{groupOf, indexIn, shownPage}
+use Rattle.apages.specs.IndexViews.{IndexSame, index-trans}
 use Rattle.card.specs.FileLaws.{Holds}
 use Rattle.card.specs.Reading.{filesIn}
 use Rattle.promises.specs.Keep.{EntrySame, Keeps}
@@ -51,63 +51,71 @@ all2-set x d nil2 r h = nil2
 all2-set x d (cons2 {a = a} {b = b} s p) zero h = cons2 (h a b s refl) p
 all2-set x d (cons2 s p) (suc r) h = cons2 s (all2-set x d p r h)
 
-idx-trans : (g : Geo) (tab : List ℕ) (own : Stamp) {x y z : List ℕ} → IdxSame g tab own x y → IdxSame g tab own y z → IdxSame g tab own x z
-idx-trans g tab own p q =
-    record {
-      page = q .page ∙ p .page;
-      stamp = ⊎-elim (λ u. ⊎-elim (λ v. inl (u ∙ v)) (λ v. inr (u ∙ v)) (p .stamp)) (λ u. inr u) (q .stamp);
-      zeros = q .zeros ∙ p .zeros;
-      pair = q .pair ∙ p .pair;
-    }
+-- ---- the kinds of write that keep the cut view
 
--- what one put or remove that gives 0 does to the sectors; tab is the table of the working image
-pub record Edit (g : Geo) (tab : List ℕ) (own : Stamp) (k₀ k k′ : Cells) : Type 0 where
-  pub d : ℕ
+-- a sector behind the index that the cut view uses neither for a page, nor for the directory, nor for a file
+pub record Loose (g : Geo) (k₀ : Cells) (i : ℕ) : Type 0 where
+  pub past : g .t + 1 < i
+  pub page : (p : ℕ) → p < gP g → i ≢ shownPage (tableOf g k₀) (groupOf (indexIn g k₀) p)
+  pub dir : ¬ ((gDir g ≤ i) × (i < gF g))
+  pub held : ¬ Holds (filesIn g k₀) i
+
+-- an entry of a directory sector, which the cut view reads as before
+pub record EntryPut (g : Geo) (own : Stamp) (k₀ k k′ : Cells) (d : ℕ) : Type 0 where
+  pub low : gDir g ≤ d
+  pub high : d < gF g
   pub r : ℕ
   pub entry : List ℕ
-  pub low : g .t + 4 ≤ d
-  pub high : d < gF g
   pub entries : sectorEntries (k′ d) ≡ set (sectorEntries (k d)) r entry
-  pub step : (p₀ : List ℕ) → EntrySame g tab own p₀ (getD (sectorEntries (k d)) r []) → EntrySame g tab own p₀ entry
-  pub index : IdxSame g tab own (k (g .t + 1)) (k′ (g .t + 1))
-  pub pg : ℕ
-  pub pgLow : g .t + 2 ≤ pg
-  pub pgHigh : pg ≤ g .t + 3
-  pub hidden : pg ≢ shownPage tab (indexIn g k)
-  pub start : ℕ
-  pub count : ℕ
-  pub inside : (i : ℕ) → start ≤ i → i < start + count → gF g ≤ i
-  pub clear : (i : ℕ) → start ≤ i → i < start + count → ¬ Holds (filesIn g k₀) i
-  pub other : (i : ℕ) → i ≢ d → i ≢ g .t + 1 → i ≢ pg → ¬ ((start ≤ i) × (i < start + count)) → k′ i ≡ k i
+  pub step : (p₀ : List ℕ) → EntrySame g (tableOf g k₀) own p₀ (getD (sectorEntries (k d)) r []) → EntrySame g (tableOf g k₀) own p₀ entry
+
+-- what a change does to sector i: nothing, a loose sector, an entry, or the index
+pub data Wrote (g : Geo) (own : Stamp) (k₀ k k′ : Cells) (i : ℕ) : Type 0 where
+  stays : k′ i ≡ k i → Wrote g own k₀ k k′ i
+  loose : Loose g k₀ i → Wrote g own k₀ k k′ i
+  entry : EntryPut g own k₀ k k′ i → Wrote g own k₀ k k′ i
+  index : i ≡ g .t + 1 → IndexSame g (tableOf g k₀) own (k i) (k′ i) → Wrote g own k₀ k k′ i
 
 module _ (g : Geo) (own : Stamp) (k₀ k k′ : Cells) (P : (i : ℕ) → Keeps g own k₀ i (k i))
-    (pages : (shownPage (tableOf g k₀) (indexIn g k₀) ≡ g .t + 2) ⊎ (shownPage (tableOf g k₀) (indexIn g k₀) ≡ g .t + 3))
-    (inData : (i : ℕ) → Holds (filesIn g k₀) i → gF g ≤ i)
-    (E : Edit g (tableOf g k₀) own k₀ k k′) where
-  -- neither in the directory sector, nor in the run
-  out : (i : ℕ) → i < gF g → i ≢ E .d → i ≢ g .t + 1 → i ≢ E .pg → k′ i ≡ k i
-  out i h a b p = E .other i a b p (λ q. omega (arith, E .inside i (q .0) (q .1)))
-
-  off-page : (i : ℕ) → i ≡ shownPage (tableOf g k₀) (indexIn g k₀) → i ≢ E .pg
-  unfolding indexIn
-  off-page i e q = E .hidden (sym q ∙ e ∙ sym (P (g .t + 1) .index refl .page))
-
-  pub edit-keeps : (i : ℕ) → Keeps g own k₀ i (k′ i)
-  unfolding gF
-  edit-keeps i =
+    (pages : (p : ℕ) → p < gP g → (g .t + 2 ≤ shownPage (tableOf g k₀) (groupOf (indexIn g k₀) p)) × (shownPage (tableOf g k₀) (groupOf (indexIn g k₀) p) < gDir g))
+    (inData : (i : ℕ) → Holds (filesIn g k₀) i → gF g ≤ i) where
+  -- a loose sector may hold anything
+  pub loose-keeps : (i : ℕ) → Loose g k₀ i → Keeps g own k₀ i (k′ i)
+  loose-keeps i L =
       record {
-        fixed = λ h. out i (omega arith) (omega (arith, E .low)) (omega arith) (omega (arith, E .pgLow)) ∙ P i .fixed h;
-        index = λ e. rw e (idx-trans g (tableOf g k₀) own (P (g .t + 1) .index refl) (E .index));
-        page = λ e. out i (⊎-elim (λ u. omega (arith, u, e)) (λ u. omega (arith, u, e)) pages)
-            (⊎-elim (λ u. omega (arith, u, e, E .low)) (λ u. omega (arith, u, e, E .low)) pages)
-            (⊎-elim (λ u. omega (arith, u, e)) (λ u. omega (arith, u, e)) pages) (off-page i e) ∙ P i .page e;
-        dir = λ lo hi. go lo hi (ℕ-discrete i (E .d));
-        held = λ h. E .other i (omega (arith, E .high, inData i h)) (omega (arith, inData i h)) (omega (arith, E .pgHigh, inData i h))
-            (λ q. E .clear i (q .0) (q .1) h) ∙ P i .held h;
+        fixed = λ h. absurd (omega (arith, L .past));
+        index = λ h. absurd (omega (arith, L .past));
+        page = λ p l h. absurd (L .page p l h);
+        dir = λ a b. absurd (L .dir (a, b));
+        held = λ h. absurd (L .held h);
       }
-    where
-      go : g .t + 4 ≤ i → i < gF g → Dec (i ≡ E .d) → All2 (EntrySame g (tableOf g k₀) own) (sectorEntries (k₀ i)) (sectorEntries (k′ i))
-      go lo hi (yes e) =
-          rw (e, E .entries)
-          (all2-set (E .entry) [] (P (E .d) .dir (E .low) (E .high)) (E .r) (λ p₀ x s q. E .step p₀ (rw q at s)))
-      go lo hi (no ne) = rw (out i hi ne (omega arith) (omega (arith, E .pgHigh))) (P i .dir lo hi)
+
+  pub entry-keeps : (d : ℕ) → EntryPut g own k₀ k k′ d → Keeps g own k₀ d (k′ d)
+  entry-keeps d E =
+      record {
+        fixed = λ h. absurd (omega (arith, E .low, past-index g));
+        index = λ h. absurd (omega (arith, E .low, past-index g));
+        page = λ p l h. absurd (omega (arith, E .low, pages p l .1));
+        dir = λ a b. rw (E .entries) (all2-set (E .entry) [] (P d .dir (E .low) (E .high)) (E .r) (λ p₀ x s q. E .step p₀ (rw q at s)));
+        held = λ h. absurd (omega (arith, E .high, inData d h));
+      }
+
+  -- the index, every group of it read as before
+  pub index-keeps : (i : ℕ) → i ≡ g .t + 1 → IndexSame g (tableOf g k₀) own (k i) (k′ i) → Keeps g own k₀ i (k′ i)
+  index-keeps i e ix =
+      record {
+        fixed = λ h. absurd (omega arith);
+        index = λ h. index-trans g (tableOf g k₀) own (P i .index e) ix;
+        page = λ p l h. absurd (omega (arith, pages p l .0));
+        dir = λ a b. absurd (omega (arith, past-index g));
+        held = λ h. absurd (omega (arith, inData i h, past-index g, dir-data g));
+      }
+
+  stays-keeps : (i : ℕ) → k′ i ≡ k i → Keeps g own k₀ i (k′ i)
+  stays-keeps i e = rw e (P i)
+
+  pub wrote-keeps : (i : ℕ) → Wrote g own k₀ k k′ i → Keeps g own k₀ i (k′ i)
+  wrote-keeps i (stays e) = stays-keeps i e
+  wrote-keeps i (loose L) = loose-keeps i L
+  wrote-keeps i (entry E) = entry-keeps i E
+  wrote-keeps i (index e x) = index-keeps i e x

@@ -94,5 +94,5 @@ sync-rest s work F live =
           (rw (present-live s (sec work) live) at (F .presView)));
       alone = rw (tb, ea) (alone-first (tpOf s work) (tcOf s work) (entriesOf (s .geo) (sec work)) (apart-live s work F live));
       stamps = rw ea (F .stamps);
-      stamp = rw ia (F .stamp);
+      index = rw ia (F .index);
     }

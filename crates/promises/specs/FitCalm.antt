@@ -16,11 +16,13 @@ use Rattle.words.specs.EveryMore.{every-weaker}
 use Rattle.sectors.specs.Sectors.{Cells, sec}
 use Rattle.counts.specs.declared.Geo.{Geo}
 use Rattle.counts.specs.declared.Stamp.{Stamp}
-use Rattle.counts.specs.Geometry.{gN, geoOk, tableOf}
+use Rattle.counts.specs.Geometry.{gN, gP, geoOk, tableOf}
 use Rattle.counts.specs.Stamps.{maxTx, wordMax, stampOf, alive, showing, deadBelow}
 use Rattle.entries.specs.Entries.{shownBytes, shown, entryOk}
 use Rattle.directory.specs.Directory.{entriesOf, gone, apart}
-use Rattle.apages.specs.Index.{indexIn, indexOk, shownPage, pageIn}
+use Rattle.apages.specs.Index.{groupOf, groupOk, indexIn, indexOk, shownPage, pageAt, pageIn}
+use Rattle.apages.specs.PassLaws.{groups-same}
+use Rattle.apages.specs.MapLaws.{map-same}
 use Rattle.card.specs.Files.{filesOf}
 use Rattle.card.specs.Reading.{filesIn}
 use Rattle.card.specs.Sound.{viewOk}
@@ -28,8 +30,8 @@ use Rattle.card.specs.AgreeLaws.{view-mono}
 use Rattle.session.specs.declared.Opened.{Opened}
 use Rattle.session.specs.declared.Session.the-variants.{Open}
 use Rattle.session.specs.Views.{presentTable, presentFiles, sessionFiles}
-use Rattle.session.specs.Fits.{headOk, wordOk, stampAtMost, entryAtMost}
-use Rattle.session.specs.FitLaws.{Fit, at-most, at-most-intro, present-live, present-worn, fit-table}
+use Rattle.session.specs.Fits.{headOk, wordOk, stampAtMost, entryAtMost, indexAtMost}
+use Rattle.session.specs.FitLaws.{Fit, at-most, at-most-intro, present-live, present-worn, fit-table, index-most, index-most-intro}
 use Rattle.store.specs.Sync.{grown}
 use Rattle.promises.specs.PlainList.{items, shownIn}
 
@@ -66,13 +68,24 @@ module _ (s : Opened) (T T′ : List ℕ) (agree : (x : Stamp) → stampAtMost s
       pairwise-same (apart T′ T) (apart T T) ps ps [] [] refl
       (λ i j a b. apart-eq (getD ps i []) (getD ps j []) (every-at (entryAtMost s) ps i [] (omega arith) h) (every-at (entryAtMost s) ps j [] b h))
 
-  pub view-eq : (g : Geo) (C : ℕ) (k : Cells) → every (entryAtMost s) (entriesOf g k) ≡ true → stampAtMost s (stampOf (indexIn g k)) ≡ true → viewOk g C T′ k ≡ viewOk g C T k
-  unfolding viewOk indexOk pageIn shownPage showing
+  group-eq : (g : Geo) (C p : ℕ) (x : List ℕ) → stampAtMost s (stampOf x) ≡ true → groupOk g C T′ p x ≡ groupOk g C T p x
+  unfolding groupOk
+  group-eq g C p x h = rw (dead-eq C (stampOf x) h)
+
+  index-eq : (g : Geo) (C : ℕ) (ix : List ℕ) → ((p : ℕ) → p < gP g → stampAtMost s (stampOf (groupOf ix p)) ≡ true) → indexOk g C T′ ix ≡ indexOk g C T ix
+  unfolding indexOk
+  index-eq g C ix h = rw (groups-same (groupOk g C T′) (groupOk g C T) ix (gP g) (λ p l. group-eq g C p (groupOf ix p) (h p l)))
+
+  map-eq : (g : Geo) (k : Cells) → ((p : ℕ) → p < gP g → stampAtMost s (stampOf (groupOf (indexIn g k) p)) ≡ true) → pageIn g T′ k ≡ pageIn g T k
+  map-eq g k h = map-same g T T′ k k (λ p l. (unfold pageAt shownPage showing in rw (agree (stampOf (groupOf (indexIn g k) p)) (h p l))))
+
+  pub view-eq : (g : Geo) (C : ℕ) (k : Cells) → every (entryAtMost s) (entriesOf g k) ≡ true → ((p : ℕ) → p < gP g → stampAtMost s (stampOf (groupOf (indexIn g k) p)) ≡ true) → viewOk g C T′ k ≡ viewOk g C T k
+  unfolding viewOk
   view-eq g C k h q =
       rw (
-        dead-eq C (stampOf (indexIn g k)) q,
+        index-eq g C (indexIn g k) q,
         files-eq (entriesOf g k) h,
-        agree (stampOf (indexIn g k)) q,
+        map-eq g k q,
         every-same (entryOk g C T′) (entryOk g C T) (entriesOf g k) (entriesOf g k) [] [] refl
             (λ i l. entry-eq g C (getD (entriesOf g k) i []) (every-at (entryAtMost s) (entriesOf g k) i [] l h)),
       )
@@ -90,7 +103,7 @@ pub record Rest (s : Opened) (img : List ℕ) : Type 0 where
   pub view : viewOk (s .geo) (s .c .0) (tableOf (s .geo) (sec img)) (sec img) ≡ true
   pub alone : pairwise (apart (tableOf (s .geo) (sec img)) (tableOf (s .geo) (sec img))) (entriesOf (s .geo) (sec img)) ≡ true
   pub stamps : every (entryAtMost s) (entriesOf (s .geo) (sec img)) ≡ true
-  pub stamp : stampAtMost s (stampOf (indexIn (s .geo) (sec img))) ≡ true
+  pub index : indexAtMost s (indexIn (s .geo) (sec img)) ≡ true
 
 more-most : (s : Opened) (b : Bool) (x : Stamp) → stampAtMost s x ≡ true → stampAtMost (grown b s) x ≡ true
 unfolding grown
@@ -125,6 +138,14 @@ module _ (s : Opened) (img : List ℕ) (R : Rest s img) where
   stamps-more : (b : Bool) → every (entryAtMost (grown b s)) (entriesOf g (sec img)) ≡ true
   stamps-more b = every-weaker (entryAtMost s) (entryAtMost (grown b s)) (entriesOf g (sec img)) (λ p h. (unfold entryAtMost in more-most s b (stampOf p) h)) (R .stamps)
 
+  same-geo : (b : Bool) → grown b s .geo ≡ s .geo
+  unfolding grown
+  same-geo true = refl
+  same-geo false = refl
+
+  index-more : (b : Bool) → indexAtMost (grown b s) (indexIn g (sec img)) ≡ true
+  index-more b = index-most-intro (grown b s) (indexIn g (sec img)) (λ p l. more-most s b (stampOf (groupOf (indexIn g (sec img)) p)) (index-most s (indexIn g (sec img)) (R .index) p (rw (same-geo b) at l)))
+
   next-table : presentTable (grown false s) (sec img) ≡ T′
   unfolding grown
   next-table = present-live (grown false s) (sec img) refl
@@ -142,11 +163,11 @@ module _ (s : Opened) (img : List ℕ) (R : Rest s img) where
         word = eq-eqb _ _ (ap (λ (x : ℕ). x + 1) (R .word));
         max = R .max;
         past = R .past;
-        presView = rw next-table (view-eq s T T′ agree g (s .c .0) (sec img) (R .stamps) (R .stamp) ∙ R .view);
+        presView = rw next-table (view-eq s T T′ agree g (s .c .0) (sec img) (R .stamps) (index-most s (indexIn g (sec img)) (R .index)) ∙ R .view);
         cutView = view-mono g (s .c .0) (gN g) T (sec img) (omega (arith, R .count)) (R .view);
         alone = rw next-table (alone-eq s T T′ agree (entriesOf g (sec img)) (R .stamps) ∙ R .alone);
         stamps = stamps-more false;
-        stamp = more-most s false _ (R .stamp);
+        index = index-more false;
       }
 
   worn-table : presentTable (grown true s) (sec img) ≡ T
@@ -170,7 +191,7 @@ module _ (s : Opened) (img : List ℕ) (R : Rest s img) where
         cutView = view-mono g (s .c .0) (gN g) T (sec img) (omega (arith, R .count)) (R .view);
         alone = rw worn-table (R .alone);
         stamps = stamps-more true;
-        stamp = more-most s true _ (R .stamp);
+        index = index-more true;
       }
 
   -- what such a session shows is what the image shows

@@ -2,11 +2,11 @@
 use mathlib.Core.Path.{_≡_, refl, ap, _∙_}
 use mathlib.Core.Bool.{true}
 use mathlib.Core.List.{List, [], _∷_}
-use mathlib.Core.Logic.{_⊎_, ⊎-elim, _≢_}
 use Prim.Native.Nat.{ℕ, suc, _+_, _≤_, _<_}
 use native.Mathlib.Omega.{arith}
 use lib.ListN.{take, drop, getD, set}
 use lib.Seq.{split-at}
+use Rattle.counts.specs.TableLaws.{past-index, dir-data}
 use Rattle.sums.specs.Sums.{inRun}
 use Rattle.words.specs.Lists.{pairwise}
 use Rattle.words.specs.EveryMore.{every-set}
@@ -21,13 +21,13 @@ use Rattle.entries.specs.PassLaws.{RunIs, run-room, shown-run}
 use Rattle.directory.specs.Directory.{entriesOf, apart}
 use Rattle.directory.specs.NameLaws.{apart-set, quiet-apart}
 use Rattle.apages.specs.Runs.{pageOk}
-use Rattle.apages.specs.Index.{indexBytes, indexIn, shownPage, pageIn}
+use Rattle.apages.specs.Index.{indexIn, pageIn}
 use Rattle.apages.specs.PassLaws.{index-intro}
 use Rattle.card.specs.declared.Line.{Line}
 use Rattle.card.specs.Files.{filesOf, cover, runOf}
-use Rattle.card.specs.FileLaws.{files-append, files-set, files-within, held-data, cover-append, out-run}
+use Rattle.card.specs.FileLaws.{Holds, files-append, files-set, files-within, held-data, cover-append}
 use Rattle.card.specs.BitmapLaws.{InData}
-use Rattle.card.specs.RuleLaws.{cover-version, page-counts, rule-kept}
+use Rattle.card.specs.RuleLaws.{cover-version, rule-kept}
 use Rattle.card.specs.Reading.{filesIn}
 use Rattle.card.specs.Sound.{viewOk}
 use Rattle.card.specs.SpaceLaws.{page-wide}
@@ -37,12 +37,12 @@ use Rattle.session.specs.Fits.{entryAtMost}
 use Rattle.session.specs.FitLaws.{Fit, present-live}
 use Rattle.store.specs.Edit.{editWork}
 use Rattle.promises.specs.Keep.{Keeps, keeps-refl, view-same}
-use Rattle.promises.specs.Edit.{edit-keeps}
-use Rattle.apages.specs.IndexViews.{now-page}
-use Rattle.promises.specs.Ready.{ownOf, tcOf, tpOf, entryAt, entryFor, indexAt, indexFor, oldRun, lim, hc, hw, cut, pres, idxCut, idxStamp, pages, from-page, Ready, spot, inPres, stamps}
-use Rattle.promises.specs.Change.{edit-length, quiet, index-now, page-now, left-alone, entries-now, change-edit}
+use Rattle.promises.specs.Edit.{wrote-keeps}
+use Rattle.promises.specs.Ready.{ownOf, tcOf, tpOf, entryAt, entryFor, oldRun, lim, cut, pres, Ready, spot, inPres}
+use Rattle.promises.specs.Change.{edit-length, map-now, left-alone, entries-now}
+use Rattle.promises.specs.Writes.{wrote}
 use Rattle.promises.specs.Answered.{new-name, new-shown}
-use Rattle.promises.specs.FitParts.{Made, head-cong, tab≡, pres≡, x-good, x-most, ix≡, ixN, index-good, index-most}
+use Rattle.promises.specs.FitParts.{Made, head-cong, tab≡, pres≡, x-good, x-most, index-good, index-low}
 
 module _ (s : Opened) (j a k : ℕ) (v : Version) (work n d : List ℕ) (M : Made s j a k v work n d) where
   abbrev R : Ready s j a k v work n d (sec work)
@@ -100,12 +100,6 @@ module _ (s : Opened) (j a k : ℕ) (v : Version) (work n d : List ℕ) (M : Mad
       ap (λ (f : List Line). cover f i) (files-set tp es j x (R .below)) ∙ cover-append A _ i
       ∙ ap (λ (m : ℕ). cover A i + m) (cover-version x (shown tp x) B i ∙ rw (new-shown s j a k v work n d (sec work) R (M .alone) (M .named) (M .free), M .run i))
 
-  pg-is : (shownPage tp (indexAt s work) ≡ g .t + 2) ⊎ (shownPage tp (indexAt s work) ≡ g .t + 3)
-  pg-is = view-page g (s .c .0) tp (sec work) P
-
-  pg-range : (g .t + 2 ≤ shownPage tp (indexAt s work)) × (shownPage tp (indexAt s work) ≤ g .t + 3)
-  pg-range = ⊎-elim (λ q. (omega (arith, q), omega (arith, q))) (λ q. (omega (arith, q), omega (arith, q))) pg-is
-
   old-run : (oldRun s j work .start .0 + oldRun s j work .sectors ≤ g .s)
       × ((i : ℕ) → oldRun s j work .start .0 ≤ i → i < oldRun s j work .start .0 + oldRun s j work .sectors → InData g i)
   unfolding runOf
@@ -118,26 +112,12 @@ module _ (s : Opened) (j a k : ℕ) (v : Version) (work n d : List ℕ) (M : Mad
           let Q : RunIs g r = shown-run g tp (entryAt s j work) (inPres s j a k v work n d (sec work) R .wf) e in
           (run-room g r Q, λ i lo hi. let w = Q .span (omega arith) in (omega (arith, w .0), omega (arith, w .1)))
 
-  still : k + oldRun s j work .sectors ≡ 0 → indexIn g (sec after) ≡ indexAt s work → pageOk g (cover (filesOf tp (set es j x))) (pageIn g tp (sec after)) ≡ true
-  unfolding pageIn
-  still e q =
-      let same : sec after (shownPage tp (indexAt s work)) ≡ sec work (shownPage tp (indexAt s work)) =
-      quiet s j a k v work n d (sec work) R e (shownPage tp (indexAt s work)) (omega (arith, pg-range .1, spot s j a k v work n d (sec work) R .low)) (λ z. omega (arith, z .0, z .1)) in
-      rw (q, same)
-      (page-counts g (cover (filesOf tp es)) (cover (filesOf tp (set es j x))) (sec work (shownPage tp (indexAt s work)))
-      (λ i. omega (arith, was-cover i, now-cover i, out-run a k i (λ z. omega (arith, z .0, z .1)), out-run (oldRun s j work .start .0) (oldRun s j work .sectors) i (λ z. omega (arith, z .0, z .1))))
-      (P .page))
-
-  moved : k + oldRun s j work .sectors ≢ 0 → indexIn g (sec after) ≡ indexBytes (indexFor s work) → pageOk g (cover (filesOf tp (set es j x))) (pageIn g tp (sec after)) ≡ true
-  unfolding pageIn
-  moved o q =
-      rw (q, now-page g tc (ownOf s) (hc s work F (R .live)) (hw s work F (R .live)) (indexAt s work) (idxStamp s work F (R .live)) (idxCut s work F (R .live) .pair) L (F .count) (F .tx), page-now s j a k v work n d (sec work) R o, from-page s work F (R .live))
-      (rule-kept g (F .shape) (cover (filesOf tp es)) (cover (filesOf tp (set es j x))) (sec work (shownPage tp (indexAt s work))) (page-wide g (s .c .0) tp work (F .shape) (F .sized) P) (P .page) a k
+  page-good : pageOk g (cover (filesOf tp (set es j x))) (pageIn g tp (sec after)) ≡ true
+  page-good =
+      rw (map-now s j a k v work n d (sec work) R)
+      (rule-kept g (F .shape) (cover (filesOf tp es)) (cover (filesOf tp (set es j x))) (pageIn g tp (sec work)) (page-wide g (s .c .0) tp work (F .shape) (F .sized) P) (P .page) a k
       (oldRun s j work .start .0) (oldRun s j work .sectors) (λ i. omega (arith, was-cover i, now-cover i)) (R .fits) (old-run .0)
       (λ i lo hi. (R .inside i lo hi, omega (arith, hi, R .fits))) (old-run .1) (λ i. omega (arith, was-cover i)) (M .clear))
-
-  page-good : pageOk g (cover (filesOf tp (set es j x))) (pageIn g tp (sec after)) ≡ true
-  page-good = ⊎-elim (λ q. still (q .0) (ix≡ s j a k v work n d M (q .1))) (λ q. moved (q .0) (ixN s j a k v work n d M (q .1))) (index-now s j a k v work n d (sec work) R)
 
   -- ---- the tests
 
@@ -152,8 +132,12 @@ module _ (s : Opened) (j a k : ℕ) (v : Version) (work n d : List ℕ) (M : Mad
 
   keeps : (i : ℕ) → Keeps g (ownOf s) (sec work) i (sec after i)
   keeps =
-      edit-keeps g (ownOf s) (sec work) (sec work) (sec after) (keeps-refl g (ownOf s) (sec work)) (view-page g (gN g) tc (sec work) (cut s work F (R .live)))
-      (λ i h. held-data (files-within g (gN g) tc es (cut s work F (R .live) .entries)) i (unfold filesIn in h) .0) (change-edit s j a k v work n d (sec work) R)
+      λ i.
+      wrote-keeps g (ownOf s) (sec work) (sec work) (sec after) (keeps-refl g (ownOf s) (sec work)) (view-page g (gN g) tc (sec work) (cut s work F (R .live))) in-data i
+      (wrote s j a k v work n d (sec work) R refl (λ p l. refl) in-data i)
+    where
+      in-data : (i : ℕ) → Holds (filesIn g (sec work)) i → gF g ≤ i
+      in-data i h = held-data (files-within g (gN g) tc es (cut s work F (R .live) .entries)) i (unfold filesIn in h) .0
 
   cut-good : viewOk g (gN g) tc (sec after) ≡ true
   cut-good = view-same g (ownOf s) (sec work) (sec after) keeps (F .count) (F .tx) (gN g) (F .count) (F .cutView)
@@ -164,8 +148,7 @@ module _ (s : Opened) (j a k : ℕ) (v : Version) (work n d : List ℕ) (M : Mad
       (λ i l o. quiet-apart tp tc n x (getD es i []) (new-name s j a k v work n d (sec work) R (M .alone) (M .named) (M .free)) (M .alone i l o))
 
   zero-out : gF g ≤ 0 → ⊥
-  unfolding gF
-  zero-out h = omega (arith, h)
+  zero-out h = omega (arith, h, past-index g, dir-data g)
 
   pub fit-edit : Fit s after
   fit-edit =
@@ -176,7 +159,7 @@ module _ (s : Opened) (j a k : ℕ) (v : Version) (work n d : List ℕ) (M : Mad
         tx = F .tx;
         sized = edit-length s j a k v work n d (sec work) R;
         head = head-cong s (sec work) (sec after)
-            (left-alone s j a k v work n d (sec work) R 0 (omega (arith, spot s j a k v work n d (sec work) R .low)) (omega arith) (omega (arith, pages s work F (R .live) .0))
+            (left-alone s j a k v work n d (sec work) R 0 (omega (arith, spot s j a k v work n d (sec work) R .low, past-index g)) (omega arith) (λ q. omega (arith, q .0))
             (λ q. zero-out (R .inside 0 (q .0) (q .1))))
             (F .head);
         word = rw (tab≡ s j a k v work n d M) (F .word);
@@ -186,5 +169,5 @@ module _ (s : Opened) (j a k : ℕ) (v : Version) (work n d : List ℕ) (M : Mad
         cutView = rw (tab≡ s j a k v work n d M) cut-good;
         alone = rw (pres≡ s j a k v work n d M, tab≡ s j a k v work n d M, es≡) names-good;
         stamps = rw es≡ (every-set (entryAtMost s) es j x (F .stamps) (x-most s j a k v work n d M));
-        stamp = index-most s j a k v work n d M;
+        index = index-low s j a k v work n d M;
       }

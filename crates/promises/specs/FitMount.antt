@@ -19,7 +19,7 @@ use Rattle.counts.specs.Stamps.{stampOf, alive, deadBelow}
 use Rattle.entries.specs.Entries.{entryOk}
 use Rattle.entries.specs.PassLaws.{passes}
 use Rattle.directory.specs.Directory.{entriesOf}
-use Rattle.apages.specs.Index.{indexIn}
+use Rattle.apages.specs.Index.{groupOf, indexIn}
 use Rattle.apages.specs.PassLaws.{index-inv}
 use Rattle.card.specs.Sound.{shapeOk, sound}
 use Rattle.card.specs.SoundLaws.{View, view-inv, Sound, sound-inv, shape-inv}
@@ -27,7 +27,7 @@ use Rattle.card.specs.AgreeLaws.{Bump, bump-table, view-agree, entries-agree, i
 use Rattle.card.specs.Reading.{filesIn}
 use Rattle.session.specs.declared.Opened.{Opened}
 use Rattle.session.specs.Fits.{stampAtMost, entryAtMost}
-use Rattle.session.specs.FitLaws.{Fit, head-intro, at-most-intro}
+use Rattle.session.specs.FitLaws.{Fit, head-intro, at-most-intro, index-most-intro}
 use Rattle.store.specs.Steps.{setCount, mountSteps}
 use Rattle.store.specs.Mount.{openedFrom}
 use Rattle.store.specs.Sync.{grown}
@@ -106,8 +106,9 @@ module _ (card : List ℕ) (shape : shapeOk card ≡ true) (good : sound card �
         stamps = rw ea
             (every-weaker (entryOk g (countOf (sec card)) (tableOf g (sec card))) (entryAtMost (atWord card)) (entriesOf g (sec card))
             (λ p h. (unfold entryAtMost in within-word (atWord card) (tableOf g (sec card)) (stampOf p) refl (passes g (countOf (sec card)) (tableOf g (sec card)) p h .dead))) (U .entries));
-        stamp = rw ia
-            (within-word (atWord card) (tableOf g (sec card)) (stampOf (indexIn g (sec card))) refl (index-inv g (countOf (sec card)) (tableOf g (sec card)) (indexIn g (sec card)) (U .index) .dead));
+        index = rw ia
+            (index-most-intro (atWord card) (indexIn g (sec card))
+            (λ p l. within-word (atWord card) (tableOf g (sec card)) (stampOf (groupOf (indexIn g (sec card)) p)) refl (index-inv g (countOf (sec card)) (tableOf g (sec card)) (indexIn g (sec card)) (U .index) .groups p l .dead)));
       }
 
   -- the card after mount's step

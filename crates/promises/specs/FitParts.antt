@@ -27,19 +27,17 @@ use Rattle.entries.specs.PassLaws.{passes-intro}
 use Rattle.entries.specs.ChangeLaws.{bytes-stamp, bytes-size, bytes-name, bytes-zeros, now-wf}
 use Rattle.directory.specs.Directory.{entriesOf}
 use Rattle.apages.specs.Bits.{bitAt}
-use Rattle.apages.specs.Index.{indexBytes, indexIn, pairOk, pageIn}
-use Rattle.apages.specs.IndexLaws.{index-rest}
+use Rattle.apages.specs.Index.{indexIn, pageIn}
 use Rattle.apages.specs.PassLaws.{IndexPasses, index-inv}
 use Rattle.card.specs.Files.{filesOf, cover, runOf}
 use Rattle.card.specs.SoundLaws.{View}
 use Rattle.session.specs.declared.Opened.{Opened}
 use Rattle.session.specs.Views.{presentTable}
-use Rattle.session.specs.Fits.{headOk, entryAtMost, stampAtMost}
-use Rattle.session.specs.FitLaws.{Fit, present-live, at-most-intro}
+use Rattle.session.specs.Fits.{headOk, entryAtMost, stampAtMost, indexAtMost}
+use Rattle.session.specs.FitLaws.{Fit, present-live, at-most-intro, index-most, index-most-intro}
 use Rattle.store.specs.Edit.{editWork}
-use Rattle.apages.specs.IndexViews.{back-stamp, back-a, back-b, pair-ab}
-use Rattle.promises.specs.Ready.{ownOf, tcOf, tpOf, entryAt, entryFor, indexAt, indexFor, lim, hc, hw, pres, idxCut, idxStamp, Ready, inCut, stamps}
-use Rattle.promises.specs.Change.{index-now}
+use Rattle.promises.specs.Ready.{ownOf, tcOf, tpOf, entryAt, entryFor, indexAt, lim, hc, hw, pres, Ready, inCut, stamps}
+use Rattle.promises.specs.Change.{index-same}
 use Rattle.promises.specs.Alone.{Alone}
 use Rattle.promises.specs.Answered.{same-table, same-tp}
 
@@ -139,37 +137,23 @@ module _ (s : Opened) (j a k : ℕ) (v : Version) (work n d : List ℕ) (M : Mad
         name = or-intro (isAbsent (shown tp x)) _ (inr (rw (size, name) (padded-ok n (M .name))));
       })
 
-  -- ---- the index sector
-
-  pub ix≡ : sec after (g .t + 1) ≡ sec work (g .t + 1) → indexIn g (sec after) ≡ indexAt s work
-  unfolding indexIn
-  ix≡ e = e
-
-  pub ixN : sec after (g .t + 1) ≡ indexBytes (indexFor s work) → indexIn g (sec after) ≡ indexBytes (indexFor s work)
-  unfolding indexIn
-  ixN e = e
-
-  abbrev pairs : pairOk g (wordAt (indexAt s work) 8) (wordAt (indexAt s work) 12) ≡ true
-  pairs = idxCut s work F (R .live) .pair
-
-  abbrev ixS : stampOf (indexAt s work) .cc .0 ≡ s .c .0 → stampOf (indexAt s work) .txc .0 ≤ s .t .0
-  ixS = idxStamp s work F (R .live)
-
-  new-stamp : stampOf (indexBytes (indexFor s work)) ≡ ownOf s
-  new-stamp = back-stamp g tc (ownOf s) hC hW (indexAt s work) ixS pairs L (F .count) (F .tx)
-
-  new-index : IndexPasses g (s .c .0) tp (indexBytes (indexFor s work))
-  new-index =
-      record {
-        stamp = rw new-stamp own-ok;
-        dead = rw new-stamp own-dead;
-        zeros = index-rest (indexFor s work);
-        pair = rw (back-a g tc (ownOf s) hC hW (indexAt s work) ixS pairs L (F .count) (F .tx), back-b g tc (ownOf s) hC hW (indexAt s work) ixS pairs L (F .count) (F .tx))
-            (pair-ab g tc (ownOf s) hC hW (indexAt s work) ixS pairs);
-      }
+  -- ---- the index sector: each group is as it was, or has the stamp (c, t)
 
   pub index-good : IndexPasses g (s .c .0) tp (indexIn g (sec after))
-  index-good = ⊎-elim (λ q. rw (ix≡ (q .1)) (index-inv g (s .c .0) tp (indexAt s work) (P .index))) (λ q. rw (ixN (q .1)) new-index) (index-now s j a k v work n d (sec work) R)
+  index-good =
+      let I = index-same s j a k v work n d (sec work) R in
+      let X = index-inv g (s .c .0) tp (indexAt s work) (P .index) in
+      record {
+        groups = λ p l. record {
+          stamp = ⊎-elim (λ q. rw q (X .groups p l .stamp)) (λ q. rw q own-ok) (I .groups p l .stamp);
+          dead = ⊎-elim (λ q. rw q (X .groups p l .dead)) (λ q. rw q own-dead) (I .groups p l .stamp);
+          pair = I .groups p l .pair ∙ X .groups p l .pair;
+        };
+        zeros = I .zeros ∙ X .zeros;
+      }
 
-  pub index-most : stampAtMost s (stampOf (indexIn g (sec after))) ≡ true
-  index-most = ⊎-elim (λ q. rw (ix≡ (q .1)) (F .stamp)) (λ q. rw (ixN (q .1), new-stamp) own-most) (index-now s j a k v work n d (sec work) R)
+  pub index-low : indexAtMost s (indexIn g (sec after)) ≡ true
+  index-low =
+      let I = index-same s j a k v work n d (sec work) R in
+      index-most-intro s (indexIn g (sec after))
+      (λ p l. ⊎-elim (λ q. rw q (index-most s (indexAt s work) (F .index) p l)) (λ q. rw q own-most) (I .groups p l .stamp))

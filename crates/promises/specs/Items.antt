@@ -5,6 +5,7 @@ use mathlib.Core.Logic.{_≢_}
 use Prim.Native.Nat.{ℕ, _≤_, _<_}
 use mathlib.Core.Bool.{true}
 use native.Mathlib.Omega.{arith}
+use Rattle.counts.specs.TableLaws.{past-index}
 use Rattle.sectors.specs.Sectors.{Cells, sec}
 use Rattle.counts.specs.declared.Geo.{Geo}
 use Rattle.counts.specs.Geometry.{gF, countOf, tableOf}
@@ -37,7 +38,7 @@ base-data g k₀ h i q = held-data (sound-within g k₀ h) i q
 -- images that agree but for one sector before the data
 pub items-agree : {g : Geo} {fs : List Line} (a b : List ℕ) (x : ℕ) → x ≤ g .t → ((i : ℕ) → i ≢ x → sec a i ≡ sec b i) → Within g fs → items a fs ≡ items b fs
 unfolding gF
-items-agree {g} a b x low other w = items-same a b w (λ i q. other i (omega (arith, held-data w i q .0)))
+items-agree {g} a b x low other w = items-same a b w (λ i q. other i (omega (arith, held-data w i q .0, past-index g)))
 
 pub bump-items : (g : Geo) (img img′ : List ℕ) → Bump (sec img) (sec img′) → soundIn g (sec img) ≡ true → items img′ (filesIn g (sec img′)) ≡ items img (filesIn g (sec img))
 bump-items g img img′ B good =

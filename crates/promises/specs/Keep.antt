@@ -13,7 +13,7 @@ use Rattle.words.specs.EveryMore.{every-two}
 use Rattle.sectors.specs.Sectors.{Cells}
 use Rattle.counts.specs.declared.Geo.{Geo}
 use Rattle.counts.specs.declared.Stamp.{Stamp}
-use Rattle.counts.specs.Geometry.{gN, gF, countOf, tableOf}
+use Rattle.counts.specs.Geometry.{gN, gP, gF, countOf, tableOf, gDir}
 use Rattle.counts.specs.Stamps.{maxTx, stampOf}
 use Rattle.counts.specs.GeoLaws.{head-of, table-same, stamp-either, dead-either}
 use Rattle.entries.specs.declared.Version.{Version}
@@ -21,9 +21,10 @@ use Rattle.entries.specs.declared.Version.the-variants.{Absent, Present}
 use Rattle.entries.specs.Entries.{shownBytes, shown, isAbsent, nameBytes, nameOf, nameOk, versionOk, entryOk}
 use Rattle.entries.specs.PassLaws.{passes, passes-intro}
 use Rattle.directory.specs.Directory.{sectorEntries, entriesFrom, entriesOf, gone, apart}
-use Rattle.apages.specs.Index.{indexIn, indexOk, shownPage, pageIn}
+use Rattle.apages.specs.Index.{groupOf, indexIn, indexOk, shownPage, pageAt, pageIn}
+use Rattle.apages.specs.MapLaws.{map-same}
 use Rattle.apages.specs.PassLaws.{index-inv, index-intro}
-use Rattle.apages.specs.IndexViews.{IdxSame, idx-refl}
+use Rattle.apages.specs.IndexViews.{IndexSame, index-refl}
 use Rattle.card.specs.declared.Line.{Line}
 use Rattle.card.specs.Files.{consFile, filesOf}
 use Rattle.card.specs.FileLaws.{Holds}
@@ -112,14 +113,14 @@ module _ (g : Geo) (tab : List ℕ) (own : Stamp) where
 -- what may stand in sector i at a cut: relative to the sectors k₀ of the latest moment and the running stamp
 pub record Keeps (g : Geo) (own : Stamp) (k₀ : Cells) (i : ℕ) (s : List ℕ) : Type 0 where
   pub fixed : i ≤ g .t → s ≡ k₀ i
-  pub index : i ≡ g .t + 1 → IdxSame g (tableOf g k₀) own (k₀ i) s
-  pub page : i ≡ shownPage (tableOf g k₀) (indexIn g k₀) → s ≡ k₀ i
-  pub dir : g .t + 4 ≤ i → i < gF g → All2 (EntrySame g (tableOf g k₀) own) (sectorEntries (k₀ i)) (sectorEntries s)
+  pub index : i ≡ g .t + 1 → IndexSame g (tableOf g k₀) own (k₀ i) s
+  pub page : (p : ℕ) → p < gP g → i ≡ shownPage (tableOf g k₀) (groupOf (indexIn g k₀) p) → s ≡ k₀ i
+  pub dir : gDir g ≤ i → i < gF g → All2 (EntrySame g (tableOf g k₀) own) (sectorEntries (k₀ i)) (sectorEntries s)
   pub held : Holds (filesIn g k₀) i → s ≡ k₀ i
 
 -- a base keeps itself
 pub keeps-refl : (g : Geo) (own : Stamp) (k₀ : Cells) (i : ℕ) → Keeps g own k₀ i (k₀ i)
-keeps-refl g own k₀ i = record { fixed = λ h. refl; index = λ h. idx-refl _ _ _ _; page = λ h. refl; dir = λ a b. entry-refl _ _ _ _; held = λ h. refl }
+keeps-refl g own k₀ i = record { fixed = λ h. refl; index = λ h. index-refl _ _ _ _; page = λ p l h. refl; dir = λ a b. entry-refl _ _ _ _; held = λ h. refl }
 
 -- ---- a kept card reads as k₀
 
@@ -127,22 +128,23 @@ module _ (g : Geo) (own : Stamp) (k₀ k : Cells) (P : (i : ℕ) → Keeps g own
   pub tab-same : tableOf g k ≡ tableOf g k₀
   tab-same = table-same g k₀ k (λ i lo hi. P i .fixed hi)
 
-  dir-from : (n i : ℕ) → g .t + 4 ≤ i → i + n ≤ gF g → All2 (EntrySame g (tableOf g k₀) own) (entriesFrom i n k₀) (entriesFrom i n k)
+  dir-from : (n i : ℕ) → gDir g ≤ i → i + n ≤ gF g → All2 (EntrySame g (tableOf g k₀) own) (entriesFrom i n k₀) (entriesFrom i n k)
   unfolding entriesFrom
   dir-from zero i lo hi = nil2
   dir-from (suc n) i lo hi = all2-append (P i .dir lo (omega arith)) (dir-from n (suc i) (omega arith) (omega arith))
 
   pub dir-same : All2 (EntrySame g (tableOf g k₀) own) (entriesOf g k₀) (entriesOf g k)
   unfolding entriesOf gF
-  dir-same = dir-from (g .d) (g .t + 4) (omega arith) (omega arith)
+  dir-same = dir-from (g .d) (gDir g) (omega arith) (omega arith)
 
   pub kept-files : filesIn g k ≡ filesIn g k₀
   unfolding filesIn
   kept-files = rw tab-same (files-same g (tableOf g k₀) own dir-same)
 
   pub kept-page : pageIn g (tableOf g k₀) k ≡ pageIn g (tableOf g k₀) k₀
-  unfolding pageIn indexIn
-  kept-page = rw (P (g .t + 1) .index refl .page) (P _ .page refl)
+  kept-page =
+      map-same g (tableOf g k₀) (tableOf g k₀) k₀ k
+      (λ p l. (unfold pageAt indexIn in rw (P (g .t + 1) .index refl .groups p l .page) (P (shownPage (tableOf g k₀) (groupOf (k₀ (g .t + 1)) p)) .page p l refl)))
 
   pub kept-count : countOf k ≡ countOf k₀
   kept-count = head-of k₀ k (P 0 .fixed (omega arith)) .0
@@ -164,10 +166,15 @@ module _ (g : Geo) (own : Stamp) (k₀ k : Cells) (P : (i : ℕ) → Keeps g own
             let x = index-inv g bound (tableOf g k₀) (k₀ (g .t + 1)) h in
             index-intro g bound (tableOf g k₀) (k (g .t + 1))
             (record {
-              stamp = stamp-either g (stampOf (k (g .t + 1))) (stampOf (k₀ (g .t + 1))) own hc ht (s .stamp) (x .stamp);
-              dead = dead-either bound (tableOf g k₀) (stampOf (k (g .t + 1))) (stampOf (k₀ (g .t + 1))) own hb (s .stamp) (x .dead);
+              groups = λ p l.
+                  let y = s .groups p l in
+                  let z = x .groups p l in
+                  record {
+                    stamp = stamp-either g (stampOf (groupOf (k (g .t + 1)) p)) (stampOf (groupOf (k₀ (g .t + 1)) p)) own hc ht (y .stamp) (z .stamp);
+                    dead = dead-either bound (tableOf g k₀) (stampOf (groupOf (k (g .t + 1)) p)) (stampOf (groupOf (k₀ (g .t + 1)) p)) own hb (y .stamp) (z .dead);
+                    pair = y .pair ∙ z .pair;
+                  };
               zeros = s .zeros ∙ x .zeros;
-              pair = s .pair ∙ x .pair;
             }))
 
     pub kept-sound : own .cc .0 < countOf k₀ → soundIn g k₀ ≡ true → soundIn g k ≡ true

@@ -52,7 +52,7 @@ module _ (s : Opened) (card work : List ℕ) (l : length card ≡ 512 * s .geo .
   room = table-sector g (s .c .0) (s .t .0) work (F .shape) (F .sized) (F .count) small
 
   inside : ts < g .s
-  inside = omega (arith, room .1, L .sLow)
+  inside = omega (arith, room .1, L .past, L .dir, L .sLow)
 
   pub now-here : sec now ts ≡ withWord (s .c .0) (s .t .0) (sec work ts)
   unfolding setWord tableSector
@@ -114,7 +114,7 @@ module _ (s : Opened) (card work : List ℕ) (l : length card ≡ 512 * s .geo .
               go (no q) = sec-beyond (B .card′) (g .s) i (B .sized) (omega arith) ∙ sym (sec-beyond work (g .s) i (F .sized) (omega arith))
 
       one : Copied (g .s) 0 1 work card (copySteps work (g .t + 1) (g .s - g .t - 1) tail) out → Done r out
-      one A = two A (copied (g .s) (g .s - g .t - 1) (g .t + 1) work (A .card′) tail (A .sized) (F .sized) (omega (arith, L .sLow)))
+      one A = two A (copied (g .s) (g .s - g .t - 1) (g .t + 1) work (A .card′) tail (A .sized) (F .sized) (omega (arith, L .past, L .dir, L .sLow)))
 
   -- ---- sync
 

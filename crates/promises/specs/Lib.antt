@@ -17,6 +17,7 @@ pub mod Alone
 pub mod Edit
 pub mod Ready
 pub mod Change
+pub mod Writes
 pub mod Calls
 pub mod Answered
 pub mod Answers
@@ -66,6 +67,7 @@ pub mod TrialsStore
 pub mod TrialsSync
 pub mod TrialsTable
 pub mod TrialsBuild
+pub mod TrialsPages
 pub mod TrialsEdit
 pub mod TrialsReuse
 pub mod TrialsEarly

@@ -34,7 +34,7 @@ module _ (card : List ℕ) (p : Pending) (m : List Item) (K : AtRest (geoOf (sec
   L = limits g (K .calm .is .ok)
 
   pos : 0 < g .s
-  pos = omega (arith, L .sLow)
+  pos = omega (arith, L .sLow, L .past, L .dir)
 
   abbrev pub up : List ℕ
   up = setCount (countOf (sec card) + 1) card

@@ -146,5 +146,5 @@ pub too-short : (img : List ℕ) → length img < 16 → Misshapen img
 too-short img h = go (geoOk (geoOf (sec img))) refl
   where
     go : (b : Bool) → geoOk (geoOf (sec img)) ≡ b → Misshapen img
-    go true e = inr (λ q. let L = limits (geoOf (sec img)) e in omega (arith, L .sLow))
+    go true e = inr (λ q. let L = limits (geoOf (sec img)) e in omega (arith, L .sLow, L .past, L .dir))
     go false e = inl (outside (geoOf (sec img)) e)

@@ -3,7 +3,7 @@ use mathlib.Core.Path.{_≡_}
 use mathlib.Core.Bool.{true}
 use mathlib.Core.List.{List, [], _∷_}
 use mathlib.Core.Logic.{_⊎_, _≢_, _↔_}
-use Prim.Native.Nat.{ℕ, _+_, _*_, _≤_, _<_}
+use Prim.Native.Nat.{ℕ, _+_, _*_, _%_, _≤_, _<_}
 use lib.ListN.{length, getD}
 use Rattle.sectors.specs.Sectors.{sec}
 use Rattle.counts.specs.declared.Geo.{Geo}
@@ -66,10 +66,10 @@ NoEntry s work n =
     (λ p. (¬ Shows (presentTable s (sec work)) n p) × (¬ Shows (cutTable s (sec work)) n p)
     × (¬ ((shown (presentTable s (sec work)) p ≡ Absent) × (shown (cutTable s (sec work)) p ≡ Absent))))
 
--- 8: "put of k > 0 sectors, and no k neighbouring data sectors are free in both views"
+-- 8: "put of k > 0 sectors, and no k neighbouring data sectors are free in both views"; "8 now means no such run inside any page"
 abbrev pub NoRoom : Opened → List ℕ → ℕ → Type 0
 NoRoom s work k =
-    (0 < k) × ((a : ℕ) → gF (s .geo) ≤ a → a + k ≤ s .geo .s
+    (0 < k) × ((a : ℕ) → gF (s .geo) ≤ a → a + k ≤ s .geo .s → a % 4096 + k ≤ 4096
     → ¬ ((n : ℕ) → a ≤ n → n < a + k → (bitAt (presentPage s (sec work)) n ≡ 0) × (bitAt (cutPage s (sec work)) n ≡ 0)))
 
 -- 10: "lent output shorter than the answer": than the content of a file of that name

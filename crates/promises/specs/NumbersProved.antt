@@ -44,10 +44,10 @@ module _ (s : Opened) (work : List ℕ) (F : Fit s work) where
   unfolding runIn runFor
   no-room zero e = not-at e
   no-room (suc k) e =
-      (omega arith, λ a lo hi free. run-nowhere (suc k) p q (omega arith) (alike s work F) e a (omega (arith, present-wide s work F, hi, L .sHigh)) free)
+      (omega arith, λ a lo hi page free. run-nowhere (suc k) p q (omega arith) (alike s work F) e a (omega (arith, present-wide s work F, hi, L .covered)) page free)
 
   a-room : (k a : ℕ) → runIn s work k ≡ At a → ¬ NoRoom s work k
-  a-room k a e none = let (lo, hi, f) = room-in s work F k a (none .0) e in none .1 a lo hi f
+  a-room k a e none = let (lo, hi, page, f) = room-in s work F k a (none .0) e in none .1 a lo hi page f
 
 pub of-put : (s : Session) (work n d : List ℕ) → Exactly (put s work n d .answer .number) (putRows s work n d)
 unfolding put refused done numberOf putPlan

@@ -4,7 +4,7 @@ use mathlib.Core.Path.{_≡_, refl, sym, _∙_}
 use mathlib.Core.Bool.{Bool, true, false, cond}
 use mathlib.Core.List.{List, [], _∷_}
 use mathlib.Core.Logic.{_⊎_, inl, inr, ⊎-elim}
-use Prim.Native.Nat.{ℕ, zero, suc, _+_, _≤_, _<_}
+use Prim.Native.Nat.{ℕ, zero, suc, _+_, _%_, _≤_, _<_}
 use native.Mathlib.Omega.{arith}
 use lib.ListN.{length, getD}
 use Rattle.words.specs.declared.Found.{Found}
@@ -51,9 +51,9 @@ pub record PlaceIs (s : Opened) (work n : List ℕ) (j : ℕ) : Type 0 where
   pub vacant : ¬ HasName s work n j → Vacant s work j
   pub lowest : ¬ HasName s work n j → (i : ℕ) → i < j → ¬ Vacant s work i
 
--- k sectors from t on are free in both views
+-- k sectors from t on lie in one page, "no run crosses out of one", and are free in both views
 abbrev pub FreeFrom : Opened → List ℕ → ℕ → ℕ → Type 0
-FreeFrom s work k t = (n : ℕ) → t ≤ n → n < t + k → (bitAt (presentPage s (sec work)) n ≡ 0) × (bitAt (cutPage s (sec work)) n ≡ 0)
+FreeFrom s work k t = (t % 4096 + k ≤ 4096) × ((n : ℕ) → t ≤ n → n < t + k → (bitAt (presentPage s (sec work)) n ≡ 0) × (bitAt (cutPage s (sec work)) n ≡ 0))
 
 abbrev pub PutPlaces : Type 0
 PutPlaces = (s : Opened) (work n d : List ℕ) (j a : ℕ) → putPlan s work n d ≡ doIt j a
@@ -124,7 +124,7 @@ put-places s work n d j a h = (
     low : runIn s work (sectorsFor (length d)) ≡ At a → 1 ≤ sectorsFor (length d) → (t : ℕ) → t < a → ¬ FreeFrom s work (sectorsFor (length d)) t
     low e k t l f =
         run-lowest (sectorsFor (length d)) (presentPage s (sec work)) (cutPage s (sec work)) (omega arith) (alike s work (fit-inv s work (put-inv s work n d j a h .fit))) a
-        (sym (run-for-some (sectorsFor (length d)) _ _ (λ z. omega arith)) ∙ (unfold runIn in e)) t l f
+        (sym (run-for-some (sectorsFor (length d)) _ _ (λ z. omega arith)) ∙ (unfold runIn in e)) t l (f .0) (f .1)
 
 pub remove-places : RemovePlaces
 remove-places s work n j a h =

@@ -55,7 +55,7 @@ mount-can : (card : List ℕ) (p : Pending) (m : List Item) → AtRest (geoOf (s
 unfolding mountSteps
 mount-can card p m K few =
     let g = geoOf (sec card) in
-    let pos : 0 < geoOf (sec card) .s = omega (arith, limits (geoOf (sec card)) (K .calm .is .ok) .sLow) in
+    let pos : 0 < geoOf (sec card) .s = omega (arith, limits (geoOf (sec card)) (K .calm .is .ok) .sLow, limits (geoOf (sec card)) (K .calm .is .ok) .past, limits (geoOf (sec card)) (K .calm .is .ok) .dir) in
     let wd = sec-in (setCount (countOf (sec card) + 1) card) (geoOf (sec card) .s) 0 (up-length card (K .calm .is .ok) (K .calm .is .sized) few) pos in
     can-write (geoOf (sec card) .s) 0 _ (settle ∷ []) p card pos wd (top-can (geoOf (sec card) .s) p card (K .calm .is .sized) (K .top))
     (λ C. can-settle (geoOf (sec card) .s) [] _ _ C
@@ -121,7 +121,7 @@ unmount-can false s card work p m e V₀ F l = lefts (s .geo .s) card p _ (sync-
         can-write (s .geo .s) 0 _ [] _ _ pos (sec-in _ (s .geo .s) 0 (down-length s card work p m V₀ F e (not-top s (F .tx) q)) pos) (now-can s work F e) (λ C. can-nil (s .geo .s) _ _ C)
       where
         pos : 0 < s .geo .s
-        pos = omega (arith, limits (s .geo) (F .shape) .sLow)
+        pos = omega (arith, limits (s .geo) (F .shape) .sLow, limits (s .geo) (F .shape) .past, limits (s .geo) (F .shape) .dir)
 
 unmount-left : (s : Session) (card work : List ℕ) (p : Pending) (m : List Item) → InvOf s (mk card work s p m) → Lefts card p (stepsOf unmountC (mk card work s p m))
 unfolding stepsOf unmount refused unmountsBy byNumber

@@ -2,8 +2,7 @@
 use mathlib.Core.Path.{_≡_}
 use mathlib.Core.Bool.{true, false}
 use mathlib.Core.List.{List, []}
-use mathlib.Core.Logic.{⊎-elim}
-use Prim.Native.Nat.{ℕ, _+_, _*_, _≤_, _<_}
+use Prim.Native.Nat.{ℕ, _+_, _*_, _%_, _≤_, _<_}
 use native.Mathlib.Omega.{arith}
 use lib.ListN.{length, getD, set}
 use Rattle.words.specs.Lists.{pad}
@@ -11,28 +10,27 @@ use Rattle.words.specs.Bytes.{wordAt}
 use Rattle.words.specs.EveryLaws.{every-at}
 use Rattle.sectors.specs.Sectors.{Cells, sec}
 use Rattle.counts.specs.declared.Stamp.{Stamp}
-use Rattle.counts.specs.declared.Standing.{Standing}
-use Rattle.counts.specs.Geometry.{gN, gF, tableOf}
+use Rattle.counts.specs.Geometry.{gN, gP, gF, tableOf, gDir}
 use Rattle.counts.specs.GeoLaws.{Limits, limits}
-use Rattle.counts.specs.Stamps.{stampOf, standing}
+use Rattle.counts.specs.Stamps.{stampOf}
 use Rattle.entries.specs.declared.Run.{Run}
 use Rattle.entries.specs.declared.Version.{Version}
 use Rattle.entries.specs.Entries.{nameBytes, entryOf, entryBytes, shown, isAbsent, changed}
-use Rattle.entries.specs.PassLaws.{Passes}
+use Rattle.entries.specs.PassLaws.{Passes, shown-run}
 use Rattle.entries.specs.ChangeLaws.{GoodVersion, bytes-length}
 use Rattle.directory.specs.Directory.{sectorEntries, entriesOf, spotOf}
 use Rattle.directory.specs.SpotLaws.{SpotOk, at-spot}
-use Rattle.apages.specs.declared.Index.{Index}
-use Rattle.apages.specs.Index.{indexOf, indexIn, shownPage, changedIndex, pageBefore}
+use Rattle.apages.specs.Index.{groupOf, indexIn}
 use Rattle.apages.specs.PassLaws.{IndexPasses, index-inv}
 use Rattle.card.specs.Files.{runOf}
 use Rattle.card.specs.FileLaws.{Holds}
 use Rattle.card.specs.Reading.{filesIn}
-use Rattle.card.specs.SoundLaws.{View, view-inv, entry-passes, view-page}
+use Rattle.card.specs.SoundLaws.{View, view-inv, entry-passes}
 use Rattle.session.specs.declared.Opened.{Opened}
 use Rattle.session.specs.Fits.{stampAtMost, entryAtMost}
-use Rattle.session.specs.FitLaws.{Fit, fit-table, word-live, present-live, at-most}
-use Rattle.apages.specs.IndexViews.{between, before-shown}
+use Rattle.session.specs.FitLaws.{Fit, fit-table, word-live, present-live, at-most, index-most}
+use Rattle.apages.specs.Remapped.{Paired}
+use Rattle.store.specs.RoomLaws.{version-room, version-page}
 
 -- the session's stamp, the present table, and the entry that the change works on
 abbrev pub ownOf : Opened → Stamp
@@ -53,13 +51,7 @@ entryFor s j v work n = entryBytes (changed (tpOf s work) (ownOf s) (entryOf (en
 abbrev pub indexAt : Opened → List ℕ → List ℕ
 indexAt s work = indexIn (s .geo) (sec work)
 
--- how the index stands, the index after the change, and the run that the entry shows before it
-abbrev pub standFor : Opened → List ℕ → Standing
-standFor s work = standing (tpOf s work) (ownOf s) (indexOf (indexAt s work) .stamp)
-
-abbrev pub indexFor : Opened → List ℕ → Index
-indexFor s work = changedIndex (standFor s work) (ownOf s) (indexOf (indexAt s work))
-
+-- the run that the entry shows before the change
 abbrev pub oldRun : Opened → ℕ → List ℕ → Run
 oldRun s j work = runOf (shown (tpOf s work) (entryAt s j work))
 
@@ -84,24 +76,18 @@ module _ (s : Opened) (work : List ℕ) (F : Fit s work) (live : s .worn ≡ fal
   pub idxCut : IndexPasses (s .geo) (gN (s .geo)) (tcOf s work) (indexAt s work)
   idxCut = index-inv _ _ _ _ (cut .index)
 
-  pub idxStamp : stampOf (indexAt s work) .cc .0 ≡ s .c .0 → stampOf (indexAt s work) .txc .0 ≤ s .t .0
-  idxStamp = at-most s (stampOf (indexAt s work)) (F .stamp)
+  pub idxStamp : (p : ℕ) → p < gP (s .geo) → stampOf (groupOf (indexAt s work) p) .cc .0 ≡ s .c .0 → stampOf (groupOf (indexAt s work) p) .txc .0 ≤ s .t .0
+  idxStamp p l = at-most s (stampOf (groupOf (indexAt s work) p)) (index-most s (indexAt s work) (F .index) p l)
+
+  -- the bitmap can be changed
+  pub paired : Paired (s .geo) (ownOf s) work
+  paired = record { sized = F .sized; pair = λ p l. idxCut .groups p l .pair; stamps = idxStamp }
 
   pub stampsAt : (j : ℕ) → j < length (entriesOf (s .geo) (sec work)) → stampOf (entryAt s j work) .cc .0 ≡ s .c .0 → stampOf (entryAt s j work) .txc .0 ≤ s .t .0
   stampsAt j h = at-most s (stampOf (entryAt s j work)) (open-most (every-at (entryAtMost s) (entriesOf (s .geo) (sec work)) j [] h (F .stamps)))
     where
       open-most : entryAtMost s (entryAt s j work) ≡ true → stampAtMost s (stampOf (entryAt s j work)) ≡ true
       open-most h = unfold entryAtMost in h
-
-  -- A after the change is one of the two pages, and so is the page it starts from
-  pub pages : (s .geo .t + 2 ≤ indexFor s work .a .0) × (indexFor s work .a .0 ≤ s .geo .t + 3)
-  pages = between (s .geo) (tcOf s work) (ownOf s) hc hw (indexAt s work) idxStamp (idxCut .pair)
-
-  pub from-page : pageBefore (standFor s work) (indexFor s work) ≡ shownPage (tpOf s work) (indexAt s work)
-  from-page = before-shown (s .geo) (tcOf s work) (ownOf s) hc hw (indexAt s work) idxStamp (idxCut .pair)
-
-  pub from-pages : (s .geo .t + 2 ≤ pageBefore (standFor s work) (indexFor s work)) × (pageBefore (standFor s work) (indexFor s work) ≤ s .geo .t + 3)
-  from-pages = rw from-page (⊎-elim (λ q. (omega (arith, q), omega (arith, q))) (λ q. (omega (arith, q), omega (arith, q))) (view-page _ _ _ _ pres))
 
 -- ---- the change of entry j: k sectors of content d to sector a, version v under name n
 
@@ -114,24 +100,32 @@ pub record Ready (s : Opened) (j a k : ℕ) (v : Version) (work n d : List ℕ) 
   pub named : isAbsent (shown (tcOf s work) (entryAt s j work)) ≡ false → (wordAt (entryAt s j work) 8 ≡ length n) × (nameBytes (entryAt s j work) ≡ pad 32 n)
   pub inside : (i : ℕ) → a ≤ i → i < a + k → gF (s .geo) ≤ i
   pub fits : a + k ≤ s .geo .s
+  pub page : a % 4096 + k ≤ 4096
   pub enough : length d ≤ 512 * k
   pub clear : (i : ℕ) → a ≤ i → i < a + k → ¬ Holds (filesIn (s .geo) k₀) i
 
 module _ (s : Opened) (j a k : ℕ) (v : Version) (work n d : List ℕ) (k₀ : Cells) (R : Ready s j a k v work n d k₀) where
-  pub spot : SpotOk (s .geo .t + 4) (s .geo .t + 4 + s .geo .d) (spotOf (s .geo) j)
+  pub spot : SpotOk (gDir (s .geo)) (gDir (s .geo) + s .geo .d) (spotOf (s .geo) j)
   spot = at-spot (s .geo) (sec work) j [] (R .below) .0
 
   pub spot-is : entryAt s j work ≡ getD (sectorEntries (sec work (spotOf (s .geo) j .sector))) (spotOf (s .geo) j .slot) []
   spot-is = at-spot (s .geo) (sec work) j [] (R .below) .1
 
   pub in-card : spotOf (s .geo) j .sector < s .geo .s
-  in-card = omega (arith, spot .high, lim s work (R .fit) (R .live) .sLow)
+  in-card = omega (arith, spot .high, lim s work (R .fit) (R .live) .sLow, lim s work (R .fit) (R .live) .past, lim s work (R .fit) (R .live) .dir)
 
   pub inCut : Passes (s .geo) (gN (s .geo)) (tcOf s work) (entryAt s j work)
   inCut = entry-passes (s .geo) (gN (s .geo)) (tcOf s work) (sec work) j [] (cut s work (R .fit) (R .live)) (R .below)
 
   pub inPres : Passes (s .geo) (s .c .0) (tpOf s work) (entryAt s j work)
   inPres = entry-passes (s .geo) (s .c .0) (tpOf s work) (sec work) j [] (pres s work (R .fit) (R .live)) (R .below)
+
+  -- the run that the entry shows in the present view: in the card, and in one page
+  pub old-room : oldRun s j work .start .0 + oldRun s j work .sectors ≤ s .geo .s
+  old-room = version-room (s .geo) _ (λ r e. shown-run (s .geo) (tpOf s work) (entryAt s j work) (inPres .wf) e)
+
+  pub old-page : oldRun s j work .start .0 % 4096 + oldRun s j work .sectors ≤ 4096
+  old-page = version-page (s .geo) _ (λ r e. shown-run (s .geo) (tpOf s work) (entryAt s j work) (inPres .wf) e)
 
   pub stamps : stampOf (entryAt s j work) .cc .0 ≡ s .c .0 → stampOf (entryAt s j work) .txc .0 ≤ s .t .0
   stamps = stampsAt s work (R .fit) (R .live) j (R .below)

@@ -2,7 +2,7 @@
 use mathlib.Core.Path.{_≡_, refl, sym, _∙_}
 use mathlib.Core.Bool.{true}
 use mathlib.Core.List.{List, List·Memᴰ}
-use mathlib.Core.Logic.{_⊎_, inl, inr, ⊎-elim, _≢_}
+use mathlib.Core.Logic.{_⊎_, inl, inr, _≢_}
 use Prim.Native.Nat.{ℕ, _+_, _*_, _≤_, _<_}
 use native.Mathlib.Omega.{arith}
 use native.Mathlib.Decide.{ℕ-discrete, decLt}
@@ -54,8 +54,8 @@ module _ (g : Geo) (card : List ℕ) (m : List Item) (G : Good g card m) where
   bits-cover n lo hi =
       let l = page-wide g _ _ card (G .ok) (G .sized) view in
       let L = limits g (G .ok) in
-      page-bits g (cover (filesOf (tableOf g (sec card)) (entriesOf g (sec card)))) (pageIn g (tableOf g (sec card)) (sec card)) (omega (arith, L .sHigh)) (view .page) n
-      (omega (arith, L .sHigh))
+      page-bits g (cover (filesOf (tableOf g (sec card)) (entriesOf g (sec card)))) (pageIn g (tableOf g (sec card)) (sec card)) (omega (arith, L .covered)) (view .page) n
+      (omega (arith, L .covered))
       ∙ wanted-in g _ n (lo, hi)
 
   cover-once : (n : ℕ) → cover (filesIn g (sec card)) n ≤ 1
@@ -98,7 +98,7 @@ pub record Calm (g : Geo) (img₀ : List ℕ) (p : Pending) (m : List Item) : Ty
   pub head : (x : List ℕ) → List·Memᴰ x (p 0) → (x ≡ sec img₀ 0) ⊎ Up g img₀ x
 
 pub calm-reads : (g : Geo) (img₀ : List ℕ) (p : Pending) (m : List Item) → Calm g img₀ p m → (card : List ℕ) → Left p (512 * g .s) card → Reads card m
-calm-reads g img₀ p m C card h = go (C .head (sec card 0) (h .held 0 (omega (arith, limits g (C .is .ok) .sLow))))
+calm-reads g img₀ p m C card h = go (C .head (sec card 0) (h .held 0 (omega (arith, limits g (C .is .ok) .sLow, limits g (C .is .ok) .past, limits g (C .is .ok) .dir))))
   where
     same : (i : ℕ) → i ≢ 0 → Dec (i < g .s) → sec card i ≡ sec img₀ i
     same i z (yes l) = C .fixed i (sec card i) z (h .held i (omega arith))
@@ -149,10 +149,10 @@ keeps-beyond s img₀ B i x h =
     let L = limits (s .geo) (B .ok) in
     let pg = view-page (s .geo) _ _ (sec img₀) (sound-view (s .geo) (sec img₀) (B .good)) in
     record {
-      fixed = λ e. absurd (omega (arith, L .sLow));
-      index = λ e. absurd (omega (arith, L .sLow));
-      page = λ e. absurd (⊎-elim (λ q. omega (arith, q, L .sLow)) (λ q. omega (arith, q, L .sLow)) pg);
-      dir = λ a b. absurd (omega (arith, L .sLow));
+      fixed = λ e. absurd (omega (arith, L .sLow, L .past, L .dir));
+      index = λ e. absurd (omega (arith, L .sLow, L .past, L .dir));
+      page = λ p l e. absurd (omega (arith, pg p l .1, L .sLow, L .dir));
+      dir = λ a b. absurd (omega (arith, L .sLow, L .past, L .dir));
       held = λ e. absurd (omega (arith, base-data (s .geo) (sec img₀) (B .good) i e .1));
     }
 

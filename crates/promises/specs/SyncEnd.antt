@@ -83,7 +83,7 @@ module _ (s : Opened) (card work : List ℕ) (p : Pending) (m : List Item) (V₀
     L = limits g (F .shape)
 
     pos : 0 < g .s
-    pos = omega (arith, L .sLow)
+    pos = omega (arith, L .sLow, L .past, L .dir)
 
     small : s .c .0 < 2 ^ 32
     unfolding gN

@@ -122,7 +122,7 @@ module _ (s : Opened) (card work : List ℕ) (p : Pending) (m : List Item) (V₀
   -- the steps of a sync leave the working image with word c set, and go on from it
   pub sync-card : (r : List Step) → applySteps (syncSteps s work r) card ≡ applySteps r now
   unfolding syncSteps
-  sync-card r = one (copied (g .s) 1 0 work card _ (V₀ .sized) (F .sized) (omega (arith, L .sLow)))
+  sync-card r = one (copied (g .s) 1 0 work card _ (V₀ .sized) (F .sized) (omega (arith, L .sLow, L .past, L .dir)))
     where
       L : Limits g
       L = limits g (F .shape)
@@ -153,4 +153,4 @@ module _ (s : Opened) (card work : List ℕ) (p : Pending) (m : List Item) (V₀
               image-same _ now (g .s) (setSec-length (B .card′) ts (sec now ts) ∙ B .sized) (sync-length s work F live) (λ i l. pick i l (ℕ-discrete i ts))
 
       one : Copied (g .s) 0 1 work card (copySteps work (g .t + 1) (g .s - g .t - 1) tail) (applySteps (syncSteps s work r) card) → applySteps (syncSteps s work r) card ≡ applySteps r now
-      one A = two A (copied (g .s) (g .s - g .t - 1) (g .t + 1) work (A .card′) tail (A .sized) (F .sized) (omega (arith, L .sLow)))
+      one A = two A (copied (g .s) (g .s - g .t - 1) (g .t + 1) work (A .card′) tail (A .sized) (F .sized) (omega (arith, L .sLow, L .past, L .dir)))

@@ -54,7 +54,7 @@ module _ (s : Opened) (work : List ℕ) (F : Fit s work) (live : s .worn ≡ fal
   room = table-sector g (s .c .0) (s .t .0) work (F .shape) (F .sized) (F .count) small
 
   pub inside : tableSector (s .c .0) < g .s
-  inside = omega (arith, room .1, limits g (F .shape) .sLow)
+  inside = omega (arith, room .1, limits g (F .shape) .sLow, limits g (F .shape) .past, limits g (F .shape) .dir)
 
   H : Head s (sec work)
   H = head-inv s (sec work) (F .head)

@@ -1,7 +1,7 @@
 -- A wrong build: "Accepting a dead stamp at C: a later sync brings it to life." It breaks `MountShows`, on a card that is computed. Assumes nothing.
-use mathlib.Core.Path.{_≡_, refl, sym, _∙_}
+use mathlib.Core.Path.{_≡_, refl}
 use mathlib.Core.Bool.{Bool, true, false, _&&_}
-use mathlib.Core.List.{List, [], _∷_}
+use mathlib.Core.List.{List, []}
 use mathlib.Core.Option.{none, some}
 use Prim.Native.Nat.{ℕ, _+_}
 use lib.ListN.{length, drop}
@@ -19,7 +19,6 @@ use Rattle.directory.specs.Directory.{entriesOf, setEntry, apart}
 use Rattle.card.specs.Plan.{Plan, doIt, guard, ended, refused, done}
 use Rattle.card.specs.Sound.{viewOk, shapeOk, sound}
 use Rattle.card.specs.Make.{freshCard}
-use Rattle.session.specs.declared.Opened.{Opened}
 use Rattle.session.specs.declared.Session.the-variants.{Closed, Open}
 use Rattle.store.specs.Steps.{mountSteps, syncSteps}
 use Rattle.store.specs.Mount.{Ended, mountPlan, openedFrom, mountDone, mount}

@@ -11,7 +11,7 @@ use Rattle.words.specs.BoolLaws.{never}
 use Rattle.sectors.specs.Sectors.{sec, Step, write, settle, applySteps, copySteps}
 use Rattle.sectors.specs.FlatLaws.{sec-in, set-here, set-there}
 use Rattle.counts.specs.declared.Geo.{Geo}
-use Rattle.counts.specs.Geometry.{gF, geoOk, geoOf}
+use Rattle.counts.specs.Geometry.{gF, geoOk, geoOf, gDir, gP}
 use Rattle.counts.specs.GeoLaws.{limits}
 use Rattle.card.specs.declared.Line.{Line}
 use Rattle.card.specs.Plan.{done, Changed}
@@ -77,7 +77,7 @@ least = record { s = 7; t = 1; d = 1 }
 
 -- inside the limits
 least-ok : geoOk least ≡ true
-unfolding geoOk gF
+unfolding geoOk gF gDir gP
 least-ok = refl
 
 -- a fresh card shows nothing
@@ -120,7 +120,7 @@ read-list-true card p q ls t lines h = sym (lines-length t) ∙ sym (ap (λ r. r
 -- a free count that is the same on every card
 pub free-fixed : (k : ℕ) → ¬ ((card : List ℕ) → shapeOk card ≡ true → sound card ≡ true
     → k + sectorsOf (filesShown card) + gF (geoOf (sec card)) ≡ geoOf (sec card) .s)
-unfolding sectorsOf gF
+unfolding sectorsOf gF gDir gP
 free-fixed k h =
     let x : k + 0 + 6 ≡ 10 = rw (fresh-empty ten ten-ok, fresh-geo ten ten-ok) at (h (freshCard ten) (fresh-shape ten ten-ok) (fresh-sound ten ten-ok)) in
     let y : k + 0 + 6 ≡ 7 = rw (fresh-empty least least-ok, fresh-geo least least-ok) at (h (freshCard least) (fresh-shape least least-ok) (fresh-sound least least-ok)) in
@@ -191,7 +191,7 @@ table-first-step s card work f live l o e =
     let S = s .geo .s in
     let r = room s work F live .0 in
     let x = sec-in (setWord (s .c .0) (s .t .0) work) S i (sync-length s work F live) (inside s work F live) in
-    let y = sec-in work S 0 (F .sized) (omega (arith, limits (s .geo) (F .shape) .sLow)) in
+    let y = sec-in work S 0 (F .sized) (omega (arith, limits (s .geo) (F .shape) .sLow, limits (s .geo) (F .shape) .past, limits (s .geo) (F .shape) .dir)) in
     let p = set-here S card (sec (setWord (s .c .0) (s .t .0) work) i) i l (inside s work F live) x in
-    let q = set-there S card (sec work 0) 0 l (omega (arith, limits (s .geo) (F .shape) .sLow)) y i (λ z. omega (arith, r)) in
+    let q = set-there S card (sec work 0) 0 l (omega (arith, limits (s .geo) (F .shape) .sLow, limits (s .geo) (F .shape) .past, limits (s .geo) (F .shape) .dir)) y i (λ z. omega (arith, r)) in
     o (sym p ∙ ap (λ k. sec k i) e ∙ q)

@@ -1,8 +1,7 @@
 -- What a put or remove that gives 0 changes in the working image, and that all the rest stays as it was. Assumes nothing.
 use mathlib.Core.Path.{_≡_, refl, sym, _∙_}
 use mathlib.Core.List.{List, [], _∷_}
-use mathlib.Core.Logic.{⊎-elim}
-use Prim.Native.Nat.{ℕ, zero, suc, _+_, _*_, _≤_, _<_}
+use Prim.Native.Nat.{ℕ, zero, suc, _+_, _*_, _/_, _≤_, _<_}
 use native.Mathlib.Omega.{arith}
 use lib.ListN.{length, take, drop, getD, set}
 use Rattle.words.specs.Lists.{pad}
@@ -10,17 +9,16 @@ use Rattle.words.specs.SpliceLaws.{range-same}
 use Rattle.sectors.specs.Sectors.{sec}
 use Rattle.sectors.specs.FlatLaws.{flat-same}
 use Rattle.counts.specs.declared.Geo.{Geo}
-use Rattle.counts.specs.Geometry.{gN, gF}
+use Rattle.counts.specs.Geometry.{gP, gF}
+use Rattle.counts.specs.TableLaws.{past-index}
 use Rattle.entries.specs.declared.Version.{Version}
 use Rattle.entries.specs.declared.Version.the-variants.{Absent, Present}
 use Rattle.entries.specs.Entries.{entryOf, entryBytes, changed, sectorsFor}
 use Rattle.entries.specs.ChangeLaws.{pad-length}
 use Rattle.directory.specs.Directory.{entriesOf}
 use Rattle.apages.specs.Bits.{bitAt}
-use Rattle.apages.specs.Index.{indexIn, shownPage, pageIn}
 use Rattle.card.specs.Plan.{doIt, ended, done}
 use Rattle.card.specs.Files.{filesOf, cover}
-use Rattle.card.specs.SoundLaws.{view-page}
 use Rattle.session.specs.declared.Opened.{Opened}
 use Rattle.session.specs.declared.Session.the-variants.{Open}
 use Rattle.session.specs.Views.{ownStamp, presentTable, cutTable, presentPage, cutPage}
@@ -29,8 +27,9 @@ use Rattle.store.specs.Edit.{putContent, putPlan, putRun, putWork, put, removeP
 use Rattle.store.specs.EditLaws.{CanEdit}
 use Rattle.store.specs.RoomLaws.{can-put, can-remove}
 use Rattle.store.specs.Plans.{put-inv, put-num, remove-inv, remove-num}
-use Rattle.promises.specs.Ready.{tcOf, tpOf, indexAt, cut, pages, Ready, spot}
-use Rattle.promises.specs.Change.{edit-length, data-put, left-alone, entries-now, change-edit}
+use Rattle.promises.specs.Ready.{tpOf, Ready, spot}
+use Rattle.promises.specs.Change.{edit-length, data-put, left-alone, entries-now, cut-now, pair-kept}
+use Rattle.apages.specs.Remapped.{PairSame}
 use Rattle.promises.specs.Calls.{put-ready, remove-ready}
 use Rattle.promises.specs.Answers.{run-free, done-plan}
 use Rattle.promises.specs.BitsNow.{InRun, earlierRun, same-head, same-table, earlier-is, bit-set, bit-clear, bit-same}
@@ -48,12 +47,14 @@ pub record Untouched (s : Opened) (j a k : ℕ) (v : Version) (work n d after : 
   pub others : (i : ℕ) → gF (s .geo) ≤ i → ¬ InRun a k i → sec after i ≡ sec work i
   -- the run holds the content; the last sector is filled with zeros
   pub content : take (512 * k) (drop (512 * a) after) ≡ pad (512 * k) d
-  -- the present page: the run's bits are set, the earlier sectors' bits are cleared, every other bit is the same
+  -- the present map: the run's bits are set, the earlier sectors' bits are cleared, every other bit is the same
   pub taken : (i : ℕ) → InRun a k i → bitAt (presentPage s (sec after)) i ≡ 1
   pub freed : (i : ℕ) → InRun (earlierRun s work j .start .0) (earlierRun s work j .sectors) i → bitAt (presentPage s (sec after)) i ≡ 0
   pub bits : (i : ℕ) → ¬ InRun a k i → ¬ InRun (earlierRun s work j .start .0) (earlierRun s work j .sectors) i
       → bitAt (presentPage s (sec after)) i ≡ bitAt (presentPage s (sec work)) i
-  -- the page that the cut view shows is the same
+  -- a pair of pages in which no bit changes is the same to the byte, its group too
+  pub pairs : (q : ℕ) → q < gP (s .geo) → ¬ ((0 < k) × (q ≡ a / 4096)) → ¬ ((0 < earlierRun s work j .sectors) × (q ≡ earlierRun s work j .start .0 / 4096)) → PairSame (s .geo) work after q
+  -- the map that the cut view shows is the same
   pub cut : cutPage s (sec after) ≡ cutPage s (sec work)
 
 -- the content, as it was put
@@ -76,27 +77,18 @@ module _ (s : Opened) (j a k : ℕ) (v : Version) (work n d : List ℕ) (R : Rea
   same-others : (i : ℕ) → gF g ≤ i → ¬ InRun a k i → sec after i ≡ sec work i
   unfolding gF
   same-others i h o =
-      left-alone s j a k v work n d (sec work) R i (omega (arith, spot s j a k v work n d (sec work) R .high)) (omega arith) (omega (arith, pages s work (R .fit) (R .live) .1)) o
+      left-alone s j a k v work n d (sec work) R i (omega (arith, spot s j a k v work n d (sec work) R .high)) (omega (arith, past-index g)) (λ q. omega (arith, q .1)) o
 
   content-now : take (512 * k) (drop (512 * a) after) ≡ pad (512 * k) d
   content-now =
       flat-same after (putContent a k d work) k a (λ i lo hi. data-put s j a k v work n d (sec work) R i (R .inside i lo hi))
       ∙ content-there a k d work (C .room) (R .enough)
 
-  -- ---- the page that the cut view shows
-
-  abbrev at-cut : ℕ
-  at-cut = shownPage (tcOf s work) (indexAt s work)
-
-  cut-range : (g .t + 2 ≤ at-cut) × (at-cut ≤ g .t + 3)
-  cut-range = ⊎-elim (λ q. (omega (arith, q), omega (arith, q))) (λ q. (omega (arith, q), omega (arith, q))) (view-page g (gN g) (tcOf s work) (sec work) (cut s work (R .fit) (R .live)))
+  -- ---- the map that the cut view shows
 
   same-cut : cutPage s (sec after) ≡ cutPage s (sec work)
-  unfolding cutPage cutTable pageIn indexIn gF
-  same-cut =
-      let E = change-edit s j a k v work n d (sec work) R in
-      rw (same-table s j a k v work n d R C free, E .index .page)
-      (E .other at-cut (omega (arith, cut-range .1, E .low)) (omega (arith, cut-range .0)) (λ e. E .hidden (sym e)) (λ q. omega (arith, cut-range .1, E .inside at-cut (q .0) (q .1))))
+  unfolding cutPage cutTable
+  same-cut = rw (same-table s j a k v work n d R C free) (cut-now s j a k v work n d (sec work) R)
 
   entries-are : entriesOf g (sec after)
       ≡ set (entriesOf g (sec work)) j (entryBytes (changed (presentTable s (sec work)) (ownStamp s) (entryOf (getD (entriesOf g (sec work)) j [])) n v))
@@ -114,6 +106,7 @@ module _ (s : Opened) (j a k : ℕ) (v : Version) (work n d : List ℕ) (R : Rea
         taken = bit-set s j a k v work n d R C free;
         freed = rw (earlier-is s j a k v work n d R C free) (bit-clear s j a k v work n d R C free);
         bits = rw (earlier-is s j a k v work n d R C free) (bit-same s j a k v work n d R C free);
+        pairs = rw (earlier-is s j a k v work n d R C free) (pair-kept s j a k v work n d (sec work) R);
         cut = same-cut;
       }
 

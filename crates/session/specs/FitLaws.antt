@@ -15,16 +15,17 @@ use Rattle.words.specs.BoolLaws.{both, join, or-intro, falsum}
 use Rattle.sectors.specs.Sectors.{Cells, sec}
 use Rattle.counts.specs.declared.Geo.{Geo}
 use Rattle.counts.specs.declared.Stamp.{Stamp}
-use Rattle.counts.specs.Geometry.{gN, geoOk, geoOf, countOf, tableOf}
+use Rattle.counts.specs.Geometry.{gN, gP, geoOk, geoOf, countOf, tableOf}
 use Rattle.counts.specs.GeoLaws.{geo-eq}
 use Rattle.counts.specs.TableLaws.{ok-laid, table-length}
 use Rattle.counts.specs.Stamps.{maxTx, wordMax, stampOf, tableIn, asIs}
 use Rattle.directory.specs.Directory.{entriesOf, apart}
-use Rattle.apages.specs.Index.{indexIn}
+use Rattle.apages.specs.Index.{indexIn, groupOf}
+use Rattle.apages.specs.PassLaws.{groups-inv, groups-intro}
 use Rattle.card.specs.Sound.{viewOk}
 use Rattle.session.specs.declared.Opened.{Opened}
 use Rattle.session.specs.Views.{presentView, presentTable, cutTable}
-use Rattle.session.specs.Fits.{sizesOk, headOk, wordOk, stampAtMost, entryAtMost, fitsIn, fits}
+use Rattle.session.specs.Fits.{sizesOk, headOk, wordOk, stampAtMost, entryAtMost, groupAtMost, indexAtMost, fitsIn, fits}
 
 pub record Fit (s : Opened) (work : List ℕ) : Type 0 where
   pub shape : geoOk (s .geo) ≡ true
@@ -40,7 +41,7 @@ pub record Fit (s : Opened) (work : List ℕ) : Type 0 where
   pub cutView : viewOk (s .geo) (gN (s .geo)) (tableOf (s .geo) (sec work)) (sec work) ≡ true
   pub alone : pairwise (apart (presentTable s (sec work)) (tableOf (s .geo) (sec work))) (entriesOf (s .geo) (sec work)) ≡ true
   pub stamps : every (entryAtMost s) (entriesOf (s .geo) (sec work)) ≡ true
-  pub stamp : stampAtMost s (stampOf (indexIn (s .geo) (sec work))) ≡ true
+  pub index : indexAtMost s (indexIn (s .geo) (sec work)) ≡ true
 
 pub fit-inv : (s : Opened) (work : List ℕ) → fits s work ≡ true → Fit s work
 unfolding fits sizesOk fitsIn cutTable
@@ -49,12 +50,12 @@ fit-inv s work h =
     let tc = tableOf (s .geo) k in
     let (x, y) = both _ (headOk s k && wordOk (s .worn) (s .t .0) (getD tc (s .c .0) 0) && every wordMax tc && every isZero (drop (s .c .0 + 1) tc)
     && viewOk (s .geo) (s .c .0) (presentTable s k) k && viewOk (s .geo) (gN (s .geo)) tc k && pairwise (apart (presentTable s k) tc) (entriesOf (s .geo) k)
-    && every (entryAtMost s) (entriesOf (s .geo) k) && stampAtMost s (stampOf (indexIn (s .geo) k))) h in
+    && every (entryAtMost s) (entriesOf (s .geo) k) && indexAtMost s (indexIn (s .geo) k)) h in
     let (x₁, a₅) = both _ (eqb (length work) (512 * s .geo .s)) x in
     let (x₂, a₄) = both _ (leb (s .t .0) maxTx) x₁ in
     let (x₃, a₃) = both _ (leb 1 (s .t .0)) x₂ in
     let (a₁, a₂) = both (geoOk (s .geo)) _ x₃ in
-    let (y₁, b₉) = both _ (stampAtMost s (stampOf (indexIn (s .geo) k))) y in
+    let (y₁, b₉) = both _ (indexAtMost s (indexIn (s .geo) k)) y in
     let (y₂, b₈) = both _ (every (entryAtMost s) (entriesOf (s .geo) k)) y₁ in
     let (y₃, b₇) = both _ (pairwise (apart (presentTable s k) tc) (entriesOf (s .geo) k)) y₂ in
     let (y₄, b₆) = both _ (viewOk (s .geo) (gN (s .geo)) tc k) y₃ in
@@ -76,7 +77,7 @@ fit-inv s work h =
       cutView = b₆;
       alone = b₇;
       stamps = b₈;
-      stamp = b₉;
+      index = b₉;
     }
 
 pub fit-intro : (s : Opened) (work : List ℕ) → Fit s work → fits s work ≡ true
@@ -86,7 +87,7 @@ fit-intro s work F =
     (join _ _ (join _ _ (join _ _ (join _ _ (F .shape) (lt-ltb _ _ (F .count))) (le-leb _ _ (F .low))) (le-leb _ _ (F .tx))) (eq-eqb _ _ (F .sized)))
     (join _ _
     (join _ _ (join _ _ (join _ _ (join _ _ (join _ _ (join _ _ (join _ _ (F .head) (F .word)) (F .max)) (F .past)) (F .presView)) (F .cutView)) (F .alone)) (F .stamps))
-    (F .stamp))
+    (F .index))
 
 -- ---- the head of sector 0
 
@@ -125,6 +126,15 @@ at-most-intro s x h = go (ℕ-discrete (x .cc .0) (s .c .0))
     go : Dec (x .cc .0 ≡ s .c .0) → (not (eqb (x .cc .0) (s .c .0)) || leb (x .txc .0) (s .t .0)) ≡ true
     go (yes e) = or-intro (not (eqb (x .cc .0) (s .c .0))) _ (inr (le-leb _ _ (h e)))
     go (no o) = rw (ne-eqb _ _ o)
+
+-- group p of the index
+pub index-most : (s : Opened) (ix : List ℕ) → indexAtMost s ix ≡ true → (p : ℕ) → p < gP (s .geo) → stampAtMost s (stampOf (groupOf ix p)) ≡ true
+unfolding indexAtMost groupAtMost
+index-most s ix h p l = groups-inv (groupAtMost s) ix (gP (s .geo)) h p l
+
+pub index-most-intro : (s : Opened) (ix : List ℕ) → ((p : ℕ) → p < gP (s .geo) → stampAtMost s (stampOf (groupOf ix p)) ≡ true) → indexAtMost s ix ≡ true
+unfolding indexAtMost groupAtMost
+index-most-intro s ix h = groups-intro (groupAtMost s) ix (gP (s .geo)) h
 
 -- ---- worn or not
 

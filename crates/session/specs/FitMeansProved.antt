@@ -3,23 +3,23 @@ use mathlib.Core.Path.{_≡_, refl, sym}
 use mathlib.Core.Bool.{Bool, true, false}
 use mathlib.Core.List.{List, []}
 use mathlib.Core.Logic.{_↔_}
-use Prim.Native.Nat.{ℕ, _+_, _*_}
+use Prim.Native.Nat.{ℕ, _+_}
 use borrow.Author.Tests.{eqb-true, eq-eqb}
 use lib.Dec.{eqb}
-use lib.ListN.{length, getD}
+use lib.ListN.{getD}
 use Rattle.words.specs.BoolLaws.{both, join, falsum}
 use Rattle.words.specs.EveryLaws.{every-at, every-all}
 use Rattle.sectors.specs.Sectors.{sec}
-use Rattle.counts.specs.Geometry.{gN, geoOk, tableOf}
+use Rattle.counts.specs.Geometry.{gN, tableOf}
 use Rattle.counts.specs.Stamps.{maxTx, stampOf}
 use Rattle.directory.specs.Directory.{entriesOf}
-use Rattle.apages.specs.Index.{indexIn}
+use Rattle.apages.specs.Index.{groupOf, indexIn}
 use Rattle.card.specs.MeansParts.{limits-mean, zeros-mean, words-mean, past-means}
 use Rattle.card.specs.MeansProved.{view-says, says-view, alone-means}
 use Rattle.session.specs.declared.Opened.{Opened}
 use Rattle.session.specs.Views.{presentTable, cutTable}
 use Rattle.session.specs.Fits.{wordOk, entryAtMost, fits}
-use Rattle.session.specs.FitLaws.{Fit, fit-inv, fit-intro, Head, head-inv, head-intro, at-most, at-most-intro, fit-table}
+use Rattle.session.specs.FitLaws.{fit-inv, fit-intro, head-inv, head-intro, at-most, at-most-intro, index-most, index-most-intro, fit-table}
 use Rattle.session.specs.FitMeans.{Fits}
 
 word-says : (b : Bool) (t x : ℕ) → wordOk b t x ≡ true → (b ≡ false → x + 1 ≡ t) × (b ≡ true → (t ≡ maxTx) × (x ≡ maxTx))
@@ -59,7 +59,7 @@ module _ (s : Opened) (work : List ℕ) where
         alone = alone-means (presentTable s (sec work)) (tableOf (s .geo) (sec work)) (s .geo) work .0 (F .alone);
         dead = D;
         atC = (
-          at-most s (stampOf (indexIn (s .geo) (sec work))) (F .stamp),
+          λ p l. at-most s (stampOf (groupOf (indexIn (s .geo) (sec work)) p)) (index-most s (indexIn (s .geo) (sec work)) (F .index) p l),
           λ i l. at-most s (stampOf (getD (entriesOf (s .geo) (sec work)) i [])) (every-at (entryAtMost s) (entriesOf (s .geo) (sec work)) i [] l (F .stamps)),
         );
       }
@@ -83,10 +83,10 @@ module _ (s : Opened) (work : List ℕ) where
         presView = says-view (s .geo) (s .c .0) (presentTable s (sec work)) work ok (F .sized) (F .present) (F .dead);
         -- every stamp has cc below N
         cutView = says-view (s .geo) (gN (s .geo)) (tableOf (s .geo) (sec work)) work ok (F .sized) (F .cut)
-            (λ o. F .cut .stamps .0 .0, λ i l o. F .cut .stamps .1 i l .0);
+            (λ p l o. F .cut .stamps .0 p l .0, λ i l o. F .cut .stamps .1 i l .0);
         alone = alone-means (presentTable s (sec work)) (tableOf (s .geo) (sec work)) (s .geo) work .1 (F .alone);
         stamps = every-all (entryAtMost s) (entriesOf (s .geo) (sec work)) [] (λ i l. at-most-intro s (stampOf (getD (entriesOf (s .geo) (sec work)) i [])) (F .atC .1 i l));
-        stamp = at-most-intro s (stampOf (indexIn (s .geo) (sec work))) (F .atC .0);
+        index = index-most-intro s (indexIn (s .geo) (sec work)) (λ p l. at-most-intro s (stampOf (groupOf (indexIn (s .geo) (sec work)) p)) (F .atC .0 p l));
       })
 
   -- a session fits exactly when all of this holds

@@ -24,7 +24,7 @@ use Rattle.apages.specs.Index.{indexIn}
 use Rattle.card.specs.Sound.{viewOk}
 use Rattle.session.specs.declared.Opened.{Opened}
 use Rattle.session.specs.Views.{presentView, presentTable, cutTable}
-use Rattle.session.specs.Fits.{sizesOk, headOk, wordOk, entryAtMost, fitsIn, fits}
+use Rattle.session.specs.Fits.{sizesOk, headOk, wordOk, entryAtMost, indexAtMost, fitsIn, fits}
 
 -- ---- the test in three parts
 
@@ -41,7 +41,7 @@ viewsFit s k =
 
 -- the stamps at c
 unfoldable pub stampsFit : Opened → Cells → Bool
-stampsFit s k = every (entryAtMost s) (entriesOf (s .geo) k) && entryAtMost s (indexIn (s .geo) k)
+stampsFit s k = every (entryAtMost s) (entriesOf (s .geo) k) && indexAtMost s (indexIn (s .geo) k)
 
 four : (a b c d e f g h i : Bool) → (a && b && c && d && (e && f && g) && (h && i)) ≡ (a && b && c && d && e && f && g && h && i)
 four true true true true true true true h i = refl
@@ -54,11 +54,11 @@ four true false c d e f g h i = refl
 four false b c d e f g h i = refl
 
 pub parts : (s : Opened) (k : Cells) → (tableFits s k && viewsFit s k && stampsFit s k) ≡ fitsIn s k
-unfolding tableFits viewsFit stampsFit fitsIn entryAtMost
+unfolding tableFits viewsFit stampsFit fitsIn
 parts s k =
     four (headOk s k) (wordOk (s .worn) (s .t .0) (getD (cutTable s k) (s .c .0) 0)) (every wordMax (cutTable s k))
     (every isZero (drop (s .c .0 + 1) (cutTable s k))) (viewOk (s .geo) (s .c .0) (presentTable s k) k) (viewOk (s .geo) (gN (s .geo)) (cutTable s k) k)
-    (pairwise (apart (presentTable s k) (cutTable s k)) (entriesOf (s .geo) k)) (every (entryAtMost s) (entriesOf (s .geo) k)) (entryAtMost s (indexIn (s .geo) k))
+    (pairwise (apart (presentTable s k) (cutTable s k)) (entriesOf (s .geo) k)) (every (entryAtMost s) (entriesOf (s .geo) k)) (indexAtMost s (indexIn (s .geo) k))
 
 -- sector 0, read word by word
 pub head-here : (s : Opened) (work : List ℕ) {n : ℕ} {h : Geo} {z : Bool} → 512 ≤ length work → n ≡ wordAt work 0 → h ≡ geoOf (sec work)
@@ -99,7 +99,7 @@ views-here s work l ep ek ea eb en =
 
 -- the index as the part that code lends
 pub stamps-here : (s : Opened) (work : List ℕ) {a b : Bool} → a ≡ every (entryAtMost s) (entriesOf (s .geo) (sec work))
-    → b ≡ entryAtMost s (take (512 * (s .geo .t + 1) + 512 - 512 * (s .geo .t + 1)) (drop (512 * (s .geo .t + 1)) work)) → (a && b) ≡ stampsFit s (sec work)
+    → b ≡ indexAtMost s (take (512 * (s .geo .t + 1) + 512 - 512 * (s .geo .t + 1)) (drop (512 * (s .geo .t + 1)) work)) → (a && b) ≡ stampsFit s (sec work)
 unfolding stampsFit indexIn
 stamps-here s work ea eb = rw (ea, eb, sec-part work (s .geo .t + 1))
 

@@ -7,10 +7,10 @@ use lib.Dec.{leb, ltb, eqb}
 use Rattle.words.specs.Lists.{every, pairwise, isZero}
 use Rattle.sectors.specs.Sectors.{Cells, sec}
 use Rattle.counts.specs.declared.Stamp.{Stamp}
-use Rattle.counts.specs.Geometry.{gN, geoOk, geoOf, countOf}
+use Rattle.counts.specs.Geometry.{gN, gP, geoOk, geoOf, countOf}
 use Rattle.counts.specs.Stamps.{maxTx, wordMax, stampOf}
 use Rattle.directory.specs.Directory.{entriesOf, apart}
-use Rattle.apages.specs.Index.{indexIn}
+use Rattle.apages.specs.Index.{indexIn, everyGroup}
 use Rattle.card.specs.Sound.{viewOk}
 use Rattle.session.specs.declared.Opened.{Opened}
 use Rattle.session.specs.Views.{presentTable, cutTable}
@@ -38,6 +38,13 @@ stampAtMost s x = not (eqb (x .cc .0) (s .c .0)) || leb (x .txc .0) (s .t .0)
 unfoldable pub entryAtMost : Opened → List ℕ → Bool
 entryAtMost s p = stampAtMost s (stampOf p)
 
+-- the same of a group of the index, and of each of them
+unfoldable pub groupAtMost : Opened → ℕ → List ℕ → Bool
+groupAtMost s p x = stampAtMost s (stampOf x)
+
+unfoldable pub indexAtMost : Opened → List ℕ → Bool
+indexAtMost s ix = everyGroup (groupAtMost s) ix 0 (gP (s .geo))
+
 -- the rest of the paragraph: sector 0, the table, both views (stamps dead in the present view have cc below c), names, stamps at c
 unfoldable pub fitsIn : Opened → Cells → Bool
 fitsIn s k =
@@ -45,7 +52,7 @@ fitsIn s k =
     let tp = presentTable s k in
     headOk s k && wordOk (s .worn) (s .t .0) (getD tc (s .c .0) 0) && every wordMax tc && every isZero (drop (s .c .0 + 1) tc)
     && viewOk (s .geo) (s .c .0) tp k && viewOk (s .geo) (gN (s .geo)) tc k && pairwise (apart tp tc) (entriesOf (s .geo) k)
-    && every (entryAtMost s) (entriesOf (s .geo) k) && stampAtMost s (stampOf (indexIn (s .geo) k))
+    && every (entryAtMost s) (entriesOf (s .geo) k) && indexAtMost s (indexIn (s .geo) k)
 
 unfoldable pub fits : Opened → List ℕ → Bool
 fits s work = sizesOk s work && fitsIn s (sec work)

@@ -4,8 +4,8 @@ use mathlib.Core.List.{List, []}
 use Prim.Native.Nat.{ℕ, zero, suc, _*_}
 use lib.ListN.{length, getD}
 use Rattle.words.specs.declared.Found.{Found}
-use Rattle.words.specs.declared.Found.the-variants.{At, Nowhere}
 use Rattle.words.specs.Lists.{firstAt, splice, pad}
+unfoldable pub use Rattle.words.specs.Lists.{orElse}
 use Rattle.sectors.specs.Sectors.{sec}
 use Rattle.entries.specs.declared.Run.{Run}
 use Rattle.entries.specs.declared.Version.{Version}
@@ -23,10 +23,6 @@ use Rattle.session.specs.Views.{ownStamp, presentTable, cutTable, presentPage, 
 use Rattle.session.specs.Fits.{fits}
 
 -- "A name present in either view of an entry uses that entry; otherwise the lowest entry absent in both views."
-unfoldable pub orElse : Found → Found → Found
-orElse (At i) b = At i
-orElse Nowhere b = b
-
 unfoldable pub putPlace : List ℕ → List ℕ → List ℕ → List (List ℕ) → Found
 putPlace tp tc n ps = orElse (firstAt (named tp tc n) 0 ps) (firstAt (gone tp tc) 0 ps)
 

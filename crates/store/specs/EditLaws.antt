@@ -2,7 +2,7 @@
 use mathlib.Core.Path.{_≡_, refl, sym, ap, _∙_}
 use mathlib.Core.Logic.{_≢_}
 use mathlib.Core.List.{List, []}
-use Prim.Native.Nat.{ℕ, zero, suc, _+_, _-_, _*_, _≤_, _<_}
+use Prim.Native.Nat.{ℕ, zero, suc, _+_, _-_, _*_, _%_, _≤_, _<_}
 use native.Mathlib.Omega.{arith}
 use lib.ListN.{length, take, getD, set, replicate, getD-replicate, length-replicate}
 use lib.Seq.{take-all}
@@ -11,6 +11,7 @@ use Rattle.words.specs.SpliceLaws.{splice-length, splice-nil, splice-turn, spli
 use Rattle.sectors.specs.Sectors.{sec}
 use Rattle.sectors.specs.FlatLaws.{run-other}
 use Rattle.counts.specs.declared.Stamp.{Stamp}
+use Rattle.counts.specs.Geometry.{gP, gDir, gF}
 use Rattle.counts.specs.declared.View.{View}
 use Rattle.counts.specs.GeoLaws.{table-same}
 use Rattle.counts.specs.TableLaws.{LaidOut}
@@ -29,7 +30,7 @@ use Rattle.card.specs.Files.{runAt}
 use Rattle.session.specs.declared.Opened.{Opened}
 use Rattle.session.specs.Views.{ownStamp, presentView, presentTable}
 use Rattle.store.specs.Edit.{putContent, editWork}
-use Rattle.store.specs.ViewLaws.{PairIn}
+use Rattle.apages.specs.PassLaws.{PairIn}
 
 -- what a change of entry j asks: k sectors of content d at sector a, name n
 pub record CanEdit (s : Opened) (work : List ℕ) (j a k : ℕ) (n d : List ℕ) : Type 0 where
@@ -38,10 +39,12 @@ pub record CanEdit (s : Opened) (work : List ℕ) (j a k : ℕ) (n d : List ℕ)
   pub below : j < 4 * s .geo .d
   pub short : length n ≤ 32
   pub enough : length d ≤ 512 * k
-  pub top : a + k ≤ 4096
+  pub top : a + k ≤ 4096 * gP (s .geo)
+  pub page : a % 4096 + k ≤ 4096
   pub room : 512 * (a + k) ≤ length work
-  pub inside : 0 < k → s .geo .t + 4 + s .geo .d ≤ a
-  pub earlier : runAt (s .geo) (presentTable s (sec work)) work j .start .0 + runAt (s .geo) (presentTable s (sec work)) work j .sectors ≤ 4096
+  pub inside : 0 < k → gF (s .geo) ≤ a
+  pub earlier : runAt (s .geo) (presentTable s (sec work)) work j .start .0 + runAt (s .geo) (presentTable s (sec work)) work j .sectors ≤ 4096 * gP (s .geo)
+  pub earlierPage : runAt (s .geo) (presentTable s (sec work)) work j .start .0 % 4096 + runAt (s .geo) (presentTable s (sec work)) work j .sectors ≤ 4096
 
 -- ---- zeros, in a loop
 
@@ -100,7 +103,7 @@ module _ (s : Opened) (work n d : List ℕ) (j a k : ℕ) (v : Version) (C : Can
   unfolding changed
   entry-wide = entryBytes-length _ (pad-length 32 n (C .short))
 
-  spot : SpotOk (s .geo .t + 4) (s .geo .t + 4 + s .geo .d) (spotOf (s .geo) j)
+  spot : SpotOk (gDir (s .geo)) (gDir (s .geo) + s .geo .d) (spotOf (s .geo) j)
   spot = at-spot (s .geo) (sec work) j [] (entries-lt (s .geo) work j (C .below)) .0
 
   spot-room : 512 * spotOf (s .geo) j .sector + 512 ≤ length (putContent a k d work)
@@ -110,7 +113,7 @@ module _ (s : Opened) (work n d : List ℕ) (j a k : ℕ) (v : Version) (C : Can
   with-length = entry-length (spotOf (s .geo) j) (entryBytes newEntry) (putContent a k d work) spot-room (spot .four) entry-wide ∙ content-length a k d work
 
   -- the table and the index stay as they are
-  kept : (i : ℕ) → i < s .geo .t + 4 → sec withEntry i ≡ sec work i
+  kept : (i : ℕ) → i < gDir (s .geo) → sec withEntry i ≡ sec work i
   kept i h =
       entry-other (spotOf (s .geo) j) (entryBytes newEntry) (putContent a k d work) spot-room (spot .four) entry-wide i (λ e. omega (arith, spot .low))
       ∙ content-other a k d work (C .enough) i (λ q. omega (arith, C .inside (omega (arith, q .0, q .1)), q .0))
@@ -122,7 +125,7 @@ module _ (s : Opened) (work n d : List ℕ) (j a k : ℕ) (v : Version) (C : Can
     pub edit-laid : LaidOut (s .geo) w₂
     edit-laid =
         let l : length w₂ ≡ length work = ap length with-is ∙ with-length in
-        record { s = C .laid .s; t = C .laid .t; d = C .laid .d; room = omega (arith, C .laid .room) }
+        record { s = C .laid .s; t = C .laid .t; d = C .laid .d; past = C .laid .past; dir = C .laid .dir; room = omega (arith, C .laid .room) }
 
     pub edit-pair : PairIn (s .geo) w₂
     unfolding indexIn

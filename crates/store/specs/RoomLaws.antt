@@ -2,7 +2,7 @@
 use mathlib.Core.Path.{_≡_, refl, sym, _∙_}
 use mathlib.Core.Bool.{true}
 use mathlib.Core.List.{List, []}
-use Prim.Native.Nat.{ℕ, zero, suc, _+_, _-_, _*_, _≤_, _<_}
+use Prim.Native.Nat.{ℕ, zero, suc, _+_, _-_, _*_, _%_, _≤_, _<_}
 use native.Mathlib.Omega.{arith}
 use lib.ListN.{length}
 use Rattle.words.specs.declared.Found.the-variants.{At}
@@ -10,7 +10,7 @@ use Rattle.words.specs.Lists.{firstAt}
 use Rattle.words.specs.FirstLaws.{at-one, found-at}
 use Rattle.sectors.specs.Sectors.{sec}
 use Rattle.counts.specs.declared.Geo.{Geo}
-use Rattle.counts.specs.Geometry.{gN, gF, tableOf}
+use Rattle.counts.specs.Geometry.{gN, gP, gF, tableOf}
 use Rattle.counts.specs.GeoLaws.{Limits, limits}
 use Rattle.entries.specs.declared.Run.{Run}
 use Rattle.entries.specs.declared.Version.{Version}
@@ -21,7 +21,7 @@ use Rattle.directory.specs.Directory.{entriesOf, named}
 use Rattle.directory.specs.DirectoryLaws.{entries-length, entries-lt}
 use Rattle.apages.specs.Bits.{bitAt}
 use Rattle.apages.specs.Runs.{runFor}
-use Rattle.apages.specs.LowestLaws.{run-found, run-for-some}
+use Rattle.apages.specs.LowestLaws.{run-found, run-for-some, run-page}
 use Rattle.card.specs.Files.{runOf, runAt}
 use Rattle.card.specs.BitmapLaws.{InData}
 use Rattle.card.specs.SpaceLaws.{page-wide, clear-bit}
@@ -36,10 +36,15 @@ use Rattle.store.specs.EditLaws.{CanEdit}
 use Rattle.store.specs.PlaceLaws.{place-named}
 
 -- the sectors of a version, where its run passes
-version-room : (g : Geo) (v : Version) → ((r : Run) → v ≡ Present r → RunIs g r) → runOf v .start .0 + runOf v .sectors ≤ g .s
+pub version-room : (g : Geo) (v : Version) → ((r : Run) → v ≡ Present r → RunIs g r) → runOf v .start .0 + runOf v .sectors ≤ g .s
 unfolding runOf
 version-room g Absent h = omega arith
 version-room g (Present r) h = run-room g r (h r refl)
+
+pub version-page : (g : Geo) (v : Version) → ((r : Run) → v ≡ Present r → RunIs g r) → runOf v .start .0 % 4096 + runOf v .sectors ≤ 4096
+unfolding runOf
+version-page g Absent h = omega arith
+version-page g (Present r) h = h r refl .page
 
 module _ (s : Opened) (work : List ℕ) (F : Fit s work) where
   L : Limits (s .geo)
@@ -54,11 +59,11 @@ module _ (s : Opened) (work : List ℕ) (F : Fit s work) where
   pres : View (s .geo) (s .c .0) (presentTable s (sec work)) (sec work)
   pres = view-inv (s .geo) (s .c .0) (presentTable s (sec work)) (sec work) (F .presView)
 
-  pub present-wide : length p ≡ 512
+  pub present-wide : length p ≡ 512 * gP (s .geo)
   unfolding presentPage
   present-wide = page-wide (s .geo) (s .c .0) (presentTable s (sec work)) work (F .shape) (F .sized) pres
 
-  pub cut-wide : length q ≡ 512
+  pub cut-wide : length q ≡ 512 * gP (s .geo)
   unfolding cutPage cutTable
   cut-wide =
       page-wide (s .geo) (gN (s .geo)) (tableOf (s .geo) (sec work)) work (F .shape) (F .sized)
@@ -69,21 +74,25 @@ module _ (s : Opened) (work : List ℕ) (F : Fit s work) where
 
   -- the run that was found lies inside the data, free in both views
   pub room-in : (k a : ℕ) → 0 < k → runIn s work k ≡ At a
-      → (gF (s .geo) ≤ a) × (a + k ≤ s .geo .s) × ((n : ℕ) → a ≤ n → n < a + k → (bitAt p n ≡ 0) × (bitAt q n ≡ 0))
+      → (gF (s .geo) ≤ a) × (a + k ≤ s .geo .s) × (a % 4096 + k ≤ 4096) × ((n : ℕ) → a ≤ n → n < a + k → (bitAt p n ≡ 0) × (bitAt q n ≡ 0))
   unfolding runIn
   room-in k a h e =
-      let (r, f) = run-found k p q h alike a (sym (run-for-some k p q (λ z. omega arith)) ∙ e) in
+      let (r, i, f) = run-found k p q h alike a (sym (run-for-some k p q (λ z. omega arith)) ∙ e) in
       let u = in-the-data a (omega (arith, present-wide)) (f a (omega arith) (omega arith) .0) in
       let v = in-the-data (a + k - 1) (omega (arith, present-wide)) (f (a + k - 1) (omega arith) (omega arith) .0) in
-      (u .0, omega (arith, v .1), f)
+      (u .0, omega (arith, v .1), i, f)
     where
-      in-the-data : (n : ℕ) → n < 4096 → bitAt p n ≡ 0 → InData (s .geo) n
+      in-the-data : (n : ℕ) → n < 4096 * gP (s .geo) → bitAt p n ≡ 0 → InData (s .geo) n
       in-the-data n l z = clear-bit (s .geo) (s .c .0) (presentTable s (sec work)) (sec work) (F .shape) pres (unfold presentPage in present-wide) n l (unfold presentPage in z) .0
 
   run-room-in : (k a : ℕ) → runIn s work k ≡ At a → a + k ≤ s .geo .s
   unfolding runIn runFor
   run-room-in zero a e = omega (arith, at-one e)
   run-room-in (suc k) a e = room-in (suc k) a (omega arith) e .1
+
+  run-page-in : (k a : ℕ) → runIn s work k ≡ At a → a % 4096 + k ≤ 4096
+  unfolding runIn
+  run-page-in k a e = run-page k a p q alike e
 
   -- the sectors that entry j's file holds in the present view
   earlier-room : (j : ℕ) → j < 4 * s .geo .d
@@ -92,6 +101,14 @@ module _ (s : Opened) (work : List ℕ) (F : Fit s work) where
   earlier-room j h =
       let P = entry-passes (s .geo) (s .c .0) (presentTable s (sec work)) (sec work) j [] pres (entries-lt (s .geo) work j h) in
       version-room (s .geo) _ (λ r e. shown-run (s .geo) (presentTable s (sec work)) _ (P .wf) e)
+
+  -- they lie in one page
+  earlier-page : (j : ℕ) → j < 4 * s .geo .d
+      → runAt (s .geo) (presentTable s (sec work)) work j .start .0 % 4096 + runAt (s .geo) (presentTable s (sec work)) work j .sectors ≤ 4096
+  unfolding runAt
+  earlier-page j h =
+      let P = entry-passes (s .geo) (s .c .0) (presentTable s (sec work)) (sec work) j [] pres (entries-lt (s .geo) work j h) in
+      version-page (s .geo) _ (λ r e. shown-run (s .geo) (presentTable s (sec work)) _ (P .wf) e)
 
   -- the entry that put uses is one of the directory
   place-below : (n : List ℕ) (j : ℕ) → placeIn s work n ≡ At j → j < 4 * s .geo .d
@@ -113,10 +130,12 @@ module _ (s : Opened) (work : List ℕ) (F : Fit s work) where
         below = below;
         short = short-name n g;
         enough = omega (arith, e);
-        top = omega (arith, L .sHigh);
+        top = omega (arith, L .covered);
+        page = run-page-in k a r;
         room = omega (arith, F .sized);
         inside = λ h. room-in k a h r .0;
-        earlier = omega (arith, earlier-room j below, L .sHigh);
+        earlier = omega (arith, earlier-room j below, L .covered);
+        earlierPage = earlier-page j below;
       }
 
   remove-able : (j : ℕ) (n : List ℕ) → fits s work ≡ true → goodName n ≡ true → j < 4 * s .geo .d → CanEdit s work j 0 0 n []
@@ -128,9 +147,11 @@ module _ (s : Opened) (work : List ℕ) (F : Fit s work) where
         short = short-name n g;
         enough = omega arith;
         top = omega arith;
+        page = omega arith;
         room = omega arith;
         inside = λ h. absurd (omega arith);
-        earlier = omega (arith, earlier-room j below, L .sHigh);
+        earlier = omega (arith, earlier-room j below, L .covered);
+        earlierPage = earlier-page j below;
       }
 
 pub can-put : (s : Opened) (work n d : List ℕ) (j a : ℕ) {k : ℕ} → fits s work ≡ true → goodName n ≡ true → placeIn s work n ≡ At j

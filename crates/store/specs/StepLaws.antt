@@ -59,7 +59,7 @@ module _ (card : List ℕ) (ok : geoOk (geoOf (sec card)) ≡ true) (l : length 
   up = setCount (countOf (sec card) + 1) card
 
   some : 0 < geoOf (sec card) .s
-  some = omega (arith, limits (geoOf (sec card)) ok .sLow)
+  some = omega (arith, limits (geoOf (sec card)) ok .sLow, limits (geoOf (sec card)) ok .past, limits (geoOf (sec card)) ok .dir)
 
   next-small : countOf (sec card) + 1 < 2 ^ 32
   unfolding gN
@@ -109,7 +109,7 @@ module _ (g : Geo) (c t : ℕ) (img : List ℕ) (ok : geoOk g ≡ true) (l : len
     where
       go : Dec (cc ≡ c) → wordAt (splice img (512 + 4 * c) (wordBytes t)) (512 + 4 * cc) ≡ getD (set (tableOf g (sec img)) c t) cc 0
       go (yes e) =
-          rw e (word-same img (512 + 4 * c) t (omega (arith, was-laid .room, hc)) small
+          rw e (word-same img (512 + 4 * c) t (omega (arith, was-laid .room, was-laid .past, was-laid .dir, hc)) small
           ∙ sym (getD-set-same (tableOf g (sec img)) c t 0 (omega (arith, hc, table-length g img was-laid))))
       go (no o) = side (decLt cc c) ∙ sym (table-at g img was-laid cc h) ∙ sym (getD-set-other (tableOf g (sec img)) c cc t 0 o)
         where

@@ -13,7 +13,7 @@ use Rattle.sectors.specs.Sectors.{sec, setSec, Step, write, settle, applySteps,
 use Rattle.sectors.specs.SectorLaws.{step-none, copy-length, copy-step, copy-behind}
 use Rattle.counts.specs.Stamps.{maxTx}
 use Rattle.session.specs.declared.Opened.{Opened}
-use Rattle.store.specs.Steps.{setCount, setWord, tableSector, syncSteps, atTop, downSteps, unmountStepsBy, unmountSteps}
+use Rattle.store.specs.Steps.{setWord, tableSector, syncSteps, atTop, downSteps, unmountStepsBy, unmountSteps}
 
 -- how many sectors lie past the table
 abbrev pub pastTable : Opened → ℕ

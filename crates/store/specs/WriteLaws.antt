@@ -1,5 +1,5 @@
 -- What mount, sync and unmount ask, the sectors they write, and the steps of mount one by one. Assumes nothing.
-use mathlib.Core.Path.{_≡_, refl, sym, ap, _∙_}
+use mathlib.Core.Path.{_≡_, refl, sym, _∙_}
 use mathlib.Core.Bool.{true, false}
 use mathlib.Core.Logic.{_≢_}
 use mathlib.Core.List.{List}
@@ -39,8 +39,8 @@ can-mount card h k l =
     record { laid = ok-laid (geoOf (sec card)) card g m; count = unfold gN in l; word = table-inv _ _ _ (S .tab) .word l }
 
 pub record CanSync (s : Opened) (card work : List ℕ) : Type 0 where
-  pub room : s .geo .t + 4 + s .geo .d < s .geo .s
-  pub top : s .geo .s ≤ 4096
+  pub room : s .geo .t + 4 < s .geo .s
+  pub top : s .geo .s ≤ 65536
   pub table : s .geo .t ≤ 512
   pub count : s .c .0 < 128 * s .geo .t
   pub tx : s .t .0 ≤ maxTx
@@ -51,7 +51,7 @@ pub can-sync : (s : Opened) (card work : List ℕ) → length card ≡ 512 * s .
 can-sync s card work l h =
     let F = fit-inv s work h in
     let L = limits (s .geo) (F .shape) in
-    record { room = L .sLow; top = L .sHigh; table = L .tHigh; count = unfold gN in F .count; tx = F .tx; cardSize = l; workSize = F .sized }
+    record { room = omega (arith, L .past, L .dir, L .sLow); top = L .sHigh; table = L .tHigh; count = unfold gN in F .count; tx = F .tx; cardSize = l; workSize = F .sized }
 
 -- a card of the same length serves as well
 pub can-still : (s : Opened) {card work : List ℕ} (next : List ℕ) → CanSync s card work → length next ≡ length card → CanSync s next work
