@@ -5,9 +5,9 @@ ghost use Prim.Native.Nat.{_≤_};
 ghost use lib.ListN.{length};
 ghost use Rattle.words.specs.Lists.{every};
 ghost use Rattle.sectors.specs.Sectors.{sec};
-ghost use Rattle.counts.specs.TableLaws.{LaidOut};
+ghost use Rattle.counts.specs.TableLaws.{InLimits, LaidOut};
 ghost use Rattle.directory.specs.Directory.{entriesOf};
-ghost use Rattle.session.specs.Fits.{sizesOk, headOk, wordOk, stampAtMost, entryAtMost};
+ghost use Rattle.session.specs.Fits.{sizesOk, headOk, wordOk, stampAtMost, entryAtMost, indexAtMost};
 use counts::Stamp;
 use counts::TxCount;
 use session::Opened;
@@ -55,8 +55,8 @@ fn stamp_at_most(s: Opened, x: Stamp) -> bool
     !(x.cc.0 == s.c.0) | (x.txc.0 <= s.t.0)
 }
 
-// The same of an entry's stamp.
-pub fn entry_at_most(s: Opened, p: &[u8]) -> bool
+// The same of the stamp that an entry or a group of the index begins with.
+fn entry_at_most(s: Opened, p: &[u8]) -> bool
     requires { ⌜ 8 ≤ length (now p) ⌝ }
     ensures { λ r. ⌜ r ≡ entryAtMost s (now (p .entry)) ⌝ }
 {
@@ -69,16 +69,34 @@ pub fn entries_at_most(s: Opened, work: &[u8]) -> bool
     ensures { λ r. ⌜ r ≡ every (entryAtMost s) (entriesOf (s .geo) (sec (now (work .entry)))) ⌝ }
 {
     let g = s.geo;
-    let first = 512 * (g.t as usize + 4);
     let n = 4 * (g.d as usize);
     let mut j = 0;
     while j < n {
-        let at = first + 128 * j;
+        let at = directory::place_of(g, j);
         let end = at + 128;
         if !entry_at_most(s, &work[at..end]) {
             return false;
         }
         j += 1;
+    }
+    true
+}
+
+// The same of every group of the index.
+pub fn index_at_most(s: Opened, ix: &[u8]) -> bool
+    requires { ⌜ InLimits (s .geo) × (length (now ix) ≡ 512) ⌝ }
+    ensures { λ r. ⌜ r ≡ indexAtMost s (now (ix .entry)) ⌝ }
+{
+    let g = s.geo;
+    let pairs = counts::pairs(g);
+    let mut p = 0;
+    while p < pairs {
+        let at = 16 * (p as usize);
+        let end = at + 16;
+        if !entry_at_most(s, &ix[at..end]) {
+            return false;
+        }
+        p += 1;
     }
     true
 }

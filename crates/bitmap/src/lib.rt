@@ -1,23 +1,21 @@
-// The apage index, and changing the bitmap.
+// Changing the bitmap: a run of bits of one page, under its group of the index.
 ghost use mathlib.Core.Path.{_≡_};
-ghost use mathlib.Core.Bool.{true};
-ghost use Prim.Native.Nat.{_+_, _*_, _≤_};
+ghost use Prim.Native.Nat.{_+_, _*_, _/_, _%_, _≤_, _<_};
 ghost use lib.ListN.{length};
 ghost use Rattle.apages.specs.Bits.{setRun};
-ghost use Rattle.apages.specs.Index.{indexBytes, indexIn, pairOk, changedIndex, pageBefore, changedPages, changeBits};
+ghost use Rattle.apages.specs.Index.{changedIndex, pageBefore, changedRun, changeRun, changeBits};
+ghost use Rattle.apages.specs.PassLaws.{PairIn};
 ghost use Rattle.apages.specs.PageLaws.{IsPage};
 ghost use Rattle.sectors.specs.Sectors.{sec, setSec};
+ghost use Rattle.counts.specs.Geometry.{gP};
 ghost use Rattle.counts.specs.TableLaws.{LaidOut};
 ghost use Rattle.counts.specs.Stamps.{tableIn, becomesOld};
-ghost use Rattle.words.specs.Bytes.{wordAt};
 use apages::Index;
 use counts::Geo;
 use counts::Stamp;
 use counts::Standing;
 use counts::View;
 use sectors::Sector;
-
-// ---- changing the bitmap
 
 // "when alive, A and B trade places": what one of the two becomes, when it was old and the other new.
 fn swapped(st: Standing, new: Sector, old: Sector) -> Sector
@@ -30,7 +28,7 @@ fn swapped(st: Standing, new: Sector, old: Sector) -> Sector
     }
 }
 
-// The index under the session's own stamp.
+// A group under the session's own stamp.
 pub fn changed_index(st: Standing, own: Stamp, x: Index) -> Index
     ensures { λ r. ⌜ r ≡ changedIndex st own x ⌝ }
 {
@@ -65,57 +63,46 @@ fn copy_page(img: &mut [u8], from: Sector, to: Sector)
     sectors::write_sector(img, to, &page)
 }
 
-// In a page k sectors from a on become set, then m sectors from b on clear.
-fn change_runs(p: &mut [u8], a: Sector, k: u32, b: Sector, m: u32)
-    requires { ⌜ (length (now p) ≡ 512) × (a .0 + k ≤ 4096) × (b .0 + m ≤ 4096) ⌝ }
-    ensures { λ _. ⌜ now (p .exit) ≡ setRun (setRun (now (p .entry)) (a .0) k 1) (b .0) m 0 ⌝ }
-{
-    apages::set_run(p, a.0 as usize, k as usize, 1);
-    apages::set_run(p, b.0 as usize, m as usize, 0)
-}
-
-// The same in the page at sector i of an image.
-fn change_page(img: &mut [u8], i: Sector, a: Sector, k: u32, b: Sector, m: u32)
-    requires { ⌜ (512 * (i .0) + 512 ≤ length (now img)) × (a .0 + k ≤ 4096) × (b .0 + m ≤ 4096) ⌝ }
-    ensures { λ _. ⌜ now (img .exit) ≡ setSec (now (img .entry)) (i .0) (setRun (setRun (sec (now (img .entry)) (i .0)) (a .0) k 1) (b .0) m 0) ⌝ }
+// In the page at sector i of an image n bits from a on are made v.
+fn change_page(img: &mut [u8], i: Sector, a: u32, n: u32, v: u8)
+    requires { ⌜ (512 * (i .0) + 512 ≤ length (now img)) × ((a + n ≤ 4096) × (v < 2)) ⌝ }
+    ensures { λ _. ⌜ now (img .exit) ≡ setSec (now (img .entry)) (i .0) (setRun (sec (now (img .entry)) (i .0)) a n v) ⌝ }
 {
     let at = 512 * (i.0 as usize);
     let end = at + 512;
-    change_runs(&mut img[at..end], a, k, b, m)
+    apages::set_run(&mut img[at..end], a as usize, n as usize, v)
 }
 
-// Writes the index sector.
-fn write_index(img: &mut [u8], g: Geo, x: Index)
-    requires { ⌜ LaidOut g (now img) ⌝ }
-    ensures { λ _. ⌜ now (img .exit) ≡ setSec (now (img .entry)) (g .t + 1) (indexBytes x) ⌝ }
+// Writes the group of sector a; in the page A that it names n sectors from a on are made v.
+fn change_pair(img: &mut [u8], g: Geo, st: Standing, y: Index, a: Sector, n: u32, v: u8)
+    requires { ⌜ LaidOut g (now img) × ((a .0 / 4096 < gP g) × ((IsPage g (a .0 / 4096) (y .a .0) × IsPage g (a .0 / 4096) (y .b .0)) × ((a .0 % 4096 + n ≤ 4096) × (v < 2)))) ⌝ }
+    ensures { λ _. ⌜ now (img .exit) ≡ changedRun g st y (a .0) n v (now (img .entry)) ⌝ }
 {
-    let at = 512 * (g.t as usize + 1);
-    let end = at + 512;
-    index::fill_index(&mut img[at..end], x)
-}
-
-// Writes the index, and in the page A that it names k sectors from a on become set, then m sectors from b on clear.
-fn change_pages(
-    img: &mut [u8],
-    g: Geo,
-    st: Standing,
-    x: Index,
-    a: Sector,
-    k: u32,
-    b: Sector,
-    m: u32,
-)
-    requires { ⌜ LaidOut g (now img) × ((IsPage g (x .a .0) × IsPage g (x .b .0)) × ((a .0 + k ≤ 4096) × (b .0 + m ≤ 4096))) ⌝ }
-    ensures { λ _. ⌜ now (img .exit) ≡ changedPages g st x (a .0) k (b .0) m (now (img .entry)) ⌝ }
-{
-    let to = x.a;
-    let from = page_before(st, x);
-    write_index(img, g, x);
+    let to = y.a;
+    let from = page_before(st, y);
+    let at = index::group_at(g, a.0 / 4096);
+    index::put_group(img, at, y);
     copy_page(img, from, to);
-    change_page(img, to, a, k, b, m)
+    change_page(img, to, a.0 % 4096, n, v)
 }
 
-// "Changing the bitmap, only where a bit changes": k sectors from a on become set, then m sectors from b on clear.
+// "Changing the bitmap, only where a bit changes": n sectors from a on, all of one page, are made bit.
+pub fn change_run(img: &mut [u8], g: Geo, v: View, own: Stamp, a: Sector, n: u32, bit: u8)
+    requires { ⌜ LaidOut g (now img) × (PairIn g (now img) × (((a .0 % 4096 + n ≤ 4096) × (0 < n → a .0 < 4096 * gP g)) × (bit < 2))) ⌝ }
+    ensures { λ _. ⌜ now (img .exit) ≡ changeRun g (tableIn g v (sec (now (img .entry)))) own (a .0) n bit (now (img .entry)) ⌝ }
+{
+    if n == 0 {
+        return;
+    }
+    let at = index::group_at(g, a.0 / 4096);
+    let end = at + 16;
+    let x = index::index_of(&img[at..end]);
+    let st = stamps::stands(img, g, v, own, x.stamp);
+    let y = changed_index(st, own, x);
+    change_pair(img, g, st, y, a, n, bit)
+}
+
+// k sectors from a on become set, then m sectors from b on clear.
 pub fn change_bits(
     img: &mut [u8],
     g: Geo,
@@ -127,16 +114,9 @@ pub fn change_bits(
     m: u32,
 )
     requires { ⌜ LaidOut g (now img)
-        × ((pairOk g (wordAt (indexIn g (sec (now img))) 8) (wordAt (indexIn g (sec (now img))) 12) ≡ true) × ((a .0 + k ≤ 4096) × (b .0 + m ≤ 4096))) ⌝ }
+        × (PairIn g (now img) × (((a .0 % 4096 + k ≤ 4096) × (0 < k → a .0 < 4096 * gP g)) × ((b .0 % 4096 + m ≤ 4096) × (0 < m → b .0 < 4096 * gP g)))) ⌝ }
     ensures { λ _. ⌜ now (img .exit) ≡ changeBits g (tableIn g v (sec (now (img .entry)))) own (a .0) k (b .0) m (now (img .entry)) ⌝ }
 {
-    if k + m == 0 {
-        return;
-    }
-    let at = 512 * (g.t as usize + 1);
-    let end = at + 512;
-    let x = index::index_of(&img[at..end]);
-    let st = stamps::stands(img, g, v, own, x.stamp);
-    let y = changed_index(st, own, x);
-    change_pages(img, g, st, y, a, k, b, m)
+    change_run(img, g, v, own, a, k, 1);
+    change_run(img, g, v, own, b, m, 0)
 }

@@ -38,7 +38,7 @@ fn put_zeros(s: &mut [u8], at: usize, n: usize)
 
 // "Content goes to the lowest run ..; The last sector is filled with zeros."
 fn put_content(img: &mut [u8], a: Sector, k: u32, content: &[u8])
-    requires { ⌜ (length (now content) ≤ 512 * k) × ((a .0 + k ≤ 4096) × (512 * (a .0 + k) ≤ length (now img))) ⌝ }
+    requires { ⌜ (length (now content) ≤ 512 * k) × ((a .0 + k ≤ 65536) × (512 * (a .0 + k) ≤ length (now img))) ⌝ }
     ensures { λ _. ⌜ now (img .exit) ≡ putContent (a .0) k (now (content .entry)) (now (img .entry)) ⌝ }
 {
     if k == 0 {
@@ -57,7 +57,7 @@ fn changed_entry(s: Opened, work: &[u8], name: &[u8], j: usize, v: Version) -> E
     ensures { λ r. ⌜ r ≡ changed (presentTable s (sec (now (work .entry)))) (ownStamp s) (entryOf (getD (entriesOf (s .geo) (sec (now (work .entry)))) j [])) (now (name .entry)) v ⌝ }
 {
     let g = s.geo;
-    let at = 512 * (g.t as usize + 4) + 128 * j;
+    let at = directory::place_of(g, j);
     let e = entries::entry_at(work, at);
     let own = own_stamp(s);
     let present = present_view(s);

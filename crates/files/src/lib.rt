@@ -1,18 +1,18 @@
 // The files that a view shows: their runs and lines, and get over one view.
 ghost use mathlib.Core.Path.{_≡_};
 ghost use mathlib.Core.List.{[]};
-ghost use mathlib.Core.Bool.{true};
 ghost use Prim.Native.Nat.{_+_, _*_, _≤_, _<_};
 ghost use lib.ListN.{length, getD};
 ghost use Rattle.sums.specs.Sums.{bit};
 ghost use Rattle.words.specs.Lists.{splice};
-ghost use Rattle.words.specs.Bytes.{wordAt};
 ghost use Rattle.sectors.specs.Sectors.{sec};
+ghost use Rattle.counts.specs.Geometry.{gP};
 ghost use Rattle.counts.specs.Stamps.{tableIn};
 ghost use Rattle.counts.specs.TableLaws.{LaidOut};
 ghost use Rattle.directory.specs.Directory.{entriesOf};
 ghost use Rattle.apages.specs.Bits.{clearBits};
-ghost use Rattle.apages.specs.Index.{indexIn, pairOk, pageIn, shownPage};
+ghost use Rattle.apages.specs.PassLaws.{PairIn};
+ghost use Rattle.apages.specs.Index.{groupOf, indexIn, pageIn, shownPage};
 ghost use Rattle.card.specs.Files.{filesOf, runOf, runAt, contentOf, noLine};
 ghost use Rattle.card.specs.CoverLaws.{RunsOk};
 ghost use Rattle.card.specs.LineLaws.{shows, lineOf};
@@ -54,7 +54,7 @@ pub fn run_at(card: &[u8], g: Geo, v: View, j: usize) -> Run
     requires { ⌜ LaidOut g (now card) × (j < 4 * g .d) ⌝ }
     ensures { λ r. ⌜ r ≡ runAt g (tableIn g v (sec (now (card .entry)))) (now (card .entry)) j ⌝ }
 {
-    let at = 512 * (g.t as usize + 4) + 128 * j;
+    let at = directory::place_of(g, j);
     let end = at + 128;
     run_of(entries::shown(card, g, v, &card[at..end]))
 }
@@ -74,7 +74,7 @@ fn shows(card: &[u8], g: Geo, v: View, j: usize) -> u32
     requires { ⌜ LaidOut g (now card) × (j < 4 * g .d) ⌝ }
     ensures { λ r. ⌜ (r ≡ shows (tableIn g v (sec (now (card .entry)))) (getD (entriesOf g (sec (now (card .entry)))) j [])) × (r < 2) ⌝ }
 {
-    let at = 512 * (g.t as usize + 4) + 128 * j;
+    let at = directory::place_of(g, j);
     let end = at + 128;
     let absent = entries::is_absent(entries::shown(card, g, v, &card[at..end]));
     one_if(!absent)
@@ -109,7 +109,7 @@ fn line_at(card: &[u8], g: Geo, v: View, j: usize) -> Line
     requires { ⌜ LaidOut g (now card) × (j < 4 * g .d) ⌝ }
     ensures { λ r. ⌜ r ≡ lineOf (getD (entriesOf g (sec (now (card .entry)))) j []) (runAt g (tableIn g v (sec (now (card .entry)))) (now (card .entry)) j) ⌝ }
 {
-    let at = 512 * (g.t as usize + 4) + 128 * j;
+    let at = directory::place_of(g, j);
     let end = at + 128;
     let run = run_at(card, g, v, j);
     line_of(&card[at..end], run)
@@ -146,25 +146,32 @@ pub fn line_in(card: &[u8], g: Geo, v: View, i: u32) -> Line
     no_line()
 }
 
-// The sector of the page that a view shows.
-pub fn page_at(card: &[u8], g: Geo, v: View) -> Sector
-    requires { ⌜ LaidOut g (now card) ⌝ }
-    ensures { λ r. ⌜ r .0 ≡ shownPage (tableIn g v (sec (now (card .entry)))) (indexIn g (sec (now (card .entry)))) ⌝ }
+// The sector of the page of pair p that a view shows.
+pub fn page_at(card: &[u8], g: Geo, v: View, p: u32) -> Sector
+    requires { ⌜ LaidOut g (now card) × (p < gP g) ⌝ }
+    ensures { λ r. ⌜ r .0 ≡ shownPage (tableIn g v (sec (now (card .entry)))) (groupOf (indexIn g (sec (now (card .entry)))) p) ⌝ }
 {
-    let at = 512 * (g.t as usize + 1);
-    let end = at + 512;
+    let at = index::group_at(g, p);
+    let end = at + 16;
     index::shown_page(card, g, v, &card[at..end])
 }
 
-// How many bits of the page that a view shows are clear.
+// How many bits of the map that a view shows are clear: page by page.
 pub fn clear_in(card: &[u8], g: Geo, v: View) -> u32
-    requires { ⌜ LaidOut g (now card) × (pairOk g (wordAt (indexIn g (sec (now card))) 8) (wordAt (indexIn g (sec (now card))) 12) ≡ true) ⌝ }
+    requires { ⌜ LaidOut g (now card) × PairIn g (now card) ⌝ }
     ensures { λ r. ⌜ r ≡ clearBits (pageIn g (tableIn g v (sec (now (card .entry)))) (sec (now (card .entry)))) ⌝ }
 {
-    let n = page_at(card, g, v);
-    let at = 512 * (n.0 as usize);
-    let end = at + 512;
-    ones::count_clear(&card[at..end])
+    let pairs = counts::pairs(g);
+    let mut clear: u32 = 0;
+    let mut p = 0;
+    while p < pairs {
+        let n = page_at(card, g, v, p);
+        let at = 512 * (n.0 as usize);
+        let end = at + 512;
+        clear += ones::count_clear(&card[at..end]);
+        p += 1;
+    }
+    clear
 }
 
 // Gets the file of entry j: number 10, or 0.

@@ -1,13 +1,20 @@
 // What put finds in a session's two views: an entry and a run of sectors.
 ghost use mathlib.Core.Path.{_≡_};
 ghost use mathlib.Core.Bool.{true};
-ghost use Prim.Native.Nat.{_+_, _*_, _≤_};
+ghost use Prim.Native.Nat.{_+_, _*_, _≤_, _<_};
 ghost use lib.ListN.{length};
 ghost use Rattle.sectors.specs.Sectors.{sec};
+ghost use Rattle.counts.specs.Geometry.{gP};
+ghost use Rattle.counts.specs.Stamps.{tableIn};
+ghost use Rattle.counts.specs.TableLaws.{LaidOut};
 ghost use Rattle.entries.specs.Entries.{sectorsFor};
-ghost use Rattle.apages.specs.Runs.{runFor};
+ghost use Rattle.apages.specs.Runs.{lowestRun};
+ghost use Rattle.apages.specs.Index.{pageAt, pageIn};
+ghost use Rattle.apages.specs.PassLaws.{PairIn};
 ghost use Rattle.session.specs.Fits.{fits};
 ghost use Rattle.store.specs.Edit.{placeIn, runIn};
+use counts::Geo;
+use counts::View;
 use files::page_at;
 use sectors::Sector;
 use session::Opened;
@@ -29,29 +36,57 @@ pub fn put_place(s: Opened, work: &[u8], name: &[u8]) -> Found
     }
 }
 
-// Where k sectors go that two pages have clear.
+// The lowest run of k sectors that two pages have clear.
 fn run_between(work: &[u8], p: Sector, q: Sector, k: usize) -> Found
-    requires { ⌜ (512 * p .0 + 512 ≤ length (now work)) × (512 * q .0 + 512 ≤ length (now work)) ⌝ }
-    ensures { λ r. ⌜ r ≡ runFor k (sec (now (work .entry)) (p .0)) (sec (now (work .entry)) (q .0)) ⌝ }
+    requires { ⌜ (512 * p .0 + 512 ≤ length (now work)) × ((512 * q .0 + 512 ≤ length (now work)) × (0 < k)) ⌝ }
+    ensures { λ r. ⌜ r ≡ lowestRun k (sec (now (work .entry)) (p .0)) (sec (now (work .entry)) (q .0)) ⌝ }
 {
     let a = 512 * (p.0 as usize);
     let b = 512 * (q.0 as usize);
     let a_end = a + 512;
     let b_end = b + 512;
-    apages::run_for(&work[a..a_end], &work[b..b_end], k)
+    apages::lowest_run(&work[a..a_end], &work[b..b_end], k)
 }
 
-// The run that put's k sectors go to: the lowest free in both views.
+// The lowest run in page p that is free in two views.
+fn run_on(work: &[u8], g: Geo, v: View, w: View, p: u32, k: usize) -> Found
+    requires { ⌜ LaidOut g (now work) × (PairIn g (now work) × ((p < gP g) × (0 < k))) ⌝ }
+    ensures { λ r. ⌜ r ≡ lowestRun k (pageAt g (tableIn g v (sec (now (work .entry)))) (sec (now (work .entry))) p) (pageAt g (tableIn g w (sec (now (work .entry)))) (sec (now (work .entry))) p) ⌝ }
+{
+    let a = page_at(work, g, v, p);
+    let b = page_at(work, g, w, p);
+    run_between(work, a, b, k)
+}
+
+// The lowest run that is free in two views: that of the first page that has one.
+fn lowest_in(work: &[u8], g: Geo, v: View, w: View, k: usize) -> Found
+    requires { ⌜ LaidOut g (now work) × (PairIn g (now work) × (0 < k)) ⌝ }
+    ensures { λ r. ⌜ r ≡ lowestRun k (pageIn g (tableIn g v (sec (now (work .entry)))) (sec (now (work .entry)))) (pageIn g (tableIn g w (sec (now (work .entry)))) (sec (now (work .entry)))) ⌝ }
+{
+    let pairs = counts::pairs(g);
+    let mut p = 0;
+    while p < pairs {
+        let here = run_on(work, g, v, w, p, k);
+        if let Found::At(a) = here {
+            return Found::At(4096 * (p as usize) + a);
+        }
+        p += 1;
+    }
+    Found::Nowhere
+}
+
+// The run that put's k sectors go to: "start 0" for none, else the lowest free in both views.
 pub fn run_in(s: Opened, work: &[u8], k: usize) -> Found
     requires { ⌜ fits s (now work) ≡ true ⌝ }
     ensures { λ r. ⌜ r ≡ runIn s (now (work .entry)) k ⌝ }
 {
+    if k == 0 {
+        return Found::At(0);
+    }
     let g = s.geo;
     let present = present_view(s);
     let cut = counts::as_is(g);
-    let p = page_at(work, g, present);
-    let q = page_at(work, g, cut);
-    run_between(work, p, q, k)
+    lowest_in(work, g, present, cut, k)
 }
 
 // How many sectors a content takes, of any length.

@@ -45,7 +45,7 @@ fn stamps_fit(s: Opened, work: &[u8]) -> bool
     let from = 512 * (g.t as usize + 1);
     let to = from + 512;
     let entries = agree::entries_at_most(s, work);
-    entries & agree::entry_at_most(s, &work[from..to])
+    entries & agree::index_at_most(s, &work[from..to])
 }
 
 // Whether a session fits a working image.

@@ -1,11 +1,11 @@
 // A fresh card: its sectors, built in buffers of zeros, and make.
 ghost use mathlib.Core.Path.{_≡_};
-ghost use Prim.Native.Nat.{_*_};
+ghost use Prim.Native.Nat.{_*_, _≤_, _<_};
 ghost use lib.ListN.{length, replicate};
+ghost use Rattle.counts.specs.Geometry.{gP};
 ghost use Rattle.counts.specs.TableLaws.{InLimits, LaidOut};
-ghost use Rattle.apages.specs.Runs.{freshPage};
-ghost use Rattle.apages.specs.Index.{indexBytes};
-ghost use Rattle.card.specs.Make.{blockBytes, freshIndex, freshCard, make};
+ghost use Rattle.apages.specs.Runs.{dataFrom, dataTo, freshPage};
+ghost use Rattle.card.specs.Make.{blockBytes, freshGroup, freshIndex, freshPages, freshCard, make};
 use apages::Index;
 use card::Answer;
 use card::refusal;
@@ -28,17 +28,37 @@ fn fresh_block(g: Geo) -> [u8; 512]
     b
 }
 
-// A page with the bits below F and from S up set.
-pub fn fresh_page(g: Geo) -> [u8; 512]
+// Where the data starts in page p: F is at most 610, so it lies in page 0.
+fn data_from(g: Geo, p: u32) -> usize
     requires { ⌜ InLimits g ⌝ }
-    ensures { λ r. ⌜ r ≡ freshPage g ⌝ }
+    ensures { λ r. ⌜ (r ≡ dataFrom g p) × (r ≤ 4096) ⌝ }
 {
-    let f = (g.t + 4 + g.d) as usize;
-    let s = g.s as usize;
-    let mut p = [0u8; 512];
-    apages::set_run(&mut p, 0, f, 1);
-    apages::set_run(&mut p, s, 4096 - s, 1);
-    p
+    if p > 0 {
+        return 0;
+    }
+    counts::data_first(g) as usize
+}
+
+// Where the data ends in page p: at S, or at the page's end.
+fn data_to(g: Geo, p: u32) -> usize
+    requires { ⌜ InLimits g × (p < gP g) ⌝ }
+    ensures { λ r. ⌜ (r ≡ dataTo g p) × (r ≤ 4096) ⌝ }
+{
+    let left = (g.s - 4096 * p) as usize;
+    if left < 4096 { left } else { 4096 }
+}
+
+// Page p with its bits below F and from S up set.
+fn fresh_page(g: Geo, p: u32) -> [u8; 512]
+    requires { ⌜ InLimits g × (p < gP g) ⌝ }
+    ensures { λ r. ⌜ r ≡ freshPage g p ⌝ }
+{
+    let f = data_from(g, p);
+    let s = data_to(g, p);
+    let mut page = [0u8; 512];
+    apages::set_run(&mut page, 0, f, 1);
+    apages::set_run(&mut page, s, 4096 - s, 1);
+    page
 }
 
 // Makes every byte 0.
@@ -52,23 +72,51 @@ fn clear(img: &mut [u8])
     }
 }
 
-// The index sector: 0, 0, T+2, T+3.
-fn fresh_index(g: Geo) -> [u8; 512]
-    requires { ⌜ InLimits g ⌝ }
-    ensures { λ r. ⌜ r ≡ indexBytes (freshIndex g) ⌝ }
+// Group p of a fresh index: "0, 0, T + 2 + 2p, T + 3 + 2p".
+fn fresh_group(g: Geo, p: u32) -> Index
+    requires { ⌜ InLimits g × (p < gP g) ⌝ }
+    ensures { λ r. ⌜ r ≡ freshGroup g p ⌝ }
 {
     let stamp = Stamp {
         cc: CrashCount(0),
         txc: TxCount(0),
     };
-    let x = Index {
+    Index {
         stamp,
-        a: Sector(g.t + 2),
-        b: Sector(g.t + 3),
-    };
+        a: Sector(g.t + 2 + 2 * p),
+        b: Sector(g.t + 3 + 2 * p),
+    }
+}
+
+// The index sector: "the index holds P groups".
+fn fresh_index(g: Geo) -> [u8; 512]
+    requires { ⌜ InLimits g ⌝ }
+    ensures { λ r. ⌜ r ≡ freshIndex g ⌝ }
+{
+    let pairs = counts::pairs(g);
     let mut s = [0u8; 512];
-    index::fill_index(&mut s, x);
+    let mut p = 0;
+    while p < pairs {
+        let x = fresh_group(g, p);
+        index::put_group(&mut s, 16 * (p as usize), x);
+        p += 1;
+    }
     s
+}
+
+// Writes both pages of every pair, "showing the data free".
+fn fresh_pages(g: Geo, card: &mut [u8])
+    requires { ⌜ LaidOut g (now card) ⌝ }
+    ensures { λ _. ⌜ now (card .exit) ≡ freshPages g 0 (gP g) (now (card .entry)) ⌝ }
+{
+    let pairs = counts::pairs(g);
+    let mut p = 0;
+    while p < pairs {
+        let page = fresh_page(g, p);
+        sectors::write_sector(card, Sector(g.t + 2 + 2 * p), &page);
+        sectors::write_sector(card, Sector(g.t + 3 + 2 * p), &page);
+        p += 1;
+    }
 }
 
 // Makes a fresh card of an image as long as its geometry says.
@@ -78,12 +126,10 @@ pub fn make_in(g: Geo, card: &mut [u8])
 {
     let block = fresh_block(g);
     let index = fresh_index(g);
-    let page = fresh_page(g);
     clear(card);
     sectors::write_sector(card, Sector(0), &block);
     sectors::write_sector(card, Sector(g.t + 1), &index);
-    sectors::write_sector(card, Sector(g.t + 2), &page);
-    sectors::write_sector(card, Sector(g.t + 3), &page)
+    fresh_pages(g, card)
 }
 
 // Makes a fresh card: number 1, or 0.

@@ -24,11 +24,10 @@ pub fn find_name(card: &[u8], g: Geo, v: View, w: View, name: &[u8]) -> Found
     requires { ⌜ LaidOut g (now card) ⌝ }
     ensures { λ r. ⌜ r ≡ firstAt (named (tableIn g v (sec (now (card .entry)))) (tableIn g w (sec (now (card .entry)))) (now (name .entry))) 0 (entriesOf g (sec (now (card .entry)))) ⌝ }
 {
-    let first = 512 * (g.t as usize + 4);
     let n = 4 * (g.d as usize);
     let mut j = 0;
     while j < n {
-        let at = first + 128 * j;
+        let at = directory::place_of(g, j);
         let end = at + 128;
         if is_named(card, g, v, w, name, &card[at..end]) {
             return Found::At(j);
@@ -43,11 +42,10 @@ pub fn find_free(card: &[u8], g: Geo, v: View, w: View) -> Found
     requires { ⌜ LaidOut g (now card) ⌝ }
     ensures { λ r. ⌜ r ≡ firstAt (gone (tableIn g v (sec (now (card .entry)))) (tableIn g w (sec (now (card .entry))))) 0 (entriesOf g (sec (now (card .entry)))) ⌝ }
 {
-    let first = 512 * (g.t as usize + 4);
     let n = 4 * (g.d as usize);
     let mut j = 0;
     while j < n {
-        let at = first + 128 * j;
+        let at = directory::place_of(g, j);
         let end = at + 128;
         if roll::is_gone(card, g, v, w, &card[at..end]) {
             return Found::At(j);

@@ -17,11 +17,10 @@ pub fn entries_ok(card: &[u8], g: Geo, v: View, bound: u32) -> bool
     requires { ⌜ LaidOut g (now card) ⌝ }
     ensures { λ r. ⌜ r ≡ every (entryOk g bound (tableIn g v (sec (now (card .entry))))) (entriesOf g (sec (now (card .entry)))) ⌝ }
 {
-    let first = 512 * (g.t as usize + 4);
     let n = 4 * (g.d as usize);
     let mut j = 0;
     while j < n {
-        let at = first + 128 * j;
+        let at = directory::place_of(g, j);
         let end = at + 128;
         if !rules::entry_ok(card, g, v, bound, &card[at..end]) {
             return false;
@@ -58,13 +57,12 @@ fn apart_from(card: &[u8], g: Geo, v: View, w: View, i: usize) -> bool
     requires { ⌜ LaidOut g (now card) × (i < 4 * g .d) ⌝ }
     ensures { λ r. ⌜ r ≡ every (apart (tableIn g v (sec (now (card .entry)))) (tableIn g w (sec (now (card .entry)))) (getD (entriesOf g (sec (now (card .entry)))) i [])) (drop (i + 1) (entriesOf g (sec (now (card .entry))))) ⌝ }
 {
-    let first = 512 * (g.t as usize + 4);
     let n = 4 * (g.d as usize);
-    let from = first + 128 * i;
+    let from = directory::place_of(g, i);
     let to = from + 128;
     let mut j = i + 1;
     while j < n {
-        let at = first + 128 * j;
+        let at = directory::place_of(g, j);
         let end = at + 128;
         if !apart(card, g, v, w, &card[from..to], &card[at..end]) {
             return false;
@@ -79,7 +77,7 @@ fn alone(card: &[u8], g: Geo, v: View, w: View, i: usize) -> bool
     requires { ⌜ LaidOut g (now card) × (i < 4 * g .d) ⌝ }
     ensures { λ r. ⌜ r ≡ every (apart (tableIn g v (sec (now (card .entry)))) (tableIn g w (sec (now (card .entry)))) (getD (entriesOf g (sec (now (card .entry)))) i [])) (drop (i + 1) (entriesOf g (sec (now (card .entry))))) ⌝ }
 {
-    let at = 512 * (g.t as usize + 4) + 128 * i;
+    let at = directory::place_of(g, i);
     let end = at + 128;
     let gone = is_gone(card, g, v, w, &card[at..end]);
     if gone {

@@ -20,7 +20,7 @@ pub fn sectors_for(bytes: u32) -> u32
     ((bytes as u64 + 511) / 512) as u32
 }
 
-// Whether a run is as long as its bytes want, and lies inside the data.
+// Whether a run is as long as its bytes want, and lies inside the data and one page.
 pub fn run_ok(g: Geo, r: Run) -> bool
     requires { ⌜ InLimits g ⌝ }
     ensures { λ ok. ⌜ ok ≡ runOk g r ⌝ }
@@ -29,8 +29,10 @@ pub fn run_ok(g: Geo, r: Run) -> bool
     if r.sectors == 0 {
         return whole & (r.start.0 == 0);
     }
+    let first = counts::data_first(g);
     let end = r.start.0 as u64 + r.sectors as u64;
-    whole & ((g.t + 4 + g.d <= r.start.0) & (end <= g.s as u64))
+    let page = (r.start.0 % 4096) as u64 + r.sectors as u64;
+    whole & ((first <= r.start.0) & (end <= g.s as u64) & (page <= 4096))
 }
 
 // Whether the 16 bytes of a version are well formed.

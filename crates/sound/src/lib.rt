@@ -9,7 +9,6 @@ ghost use Rattle.card.specs.Sound.{viewOk, soundIn, shapeOk, sound};
 use counts::CrashCount;
 use counts::Geo;
 use counts::View;
-use files::page_at;
 
 // Whether a view passes the index, entry and bitmap rules; a dead stamp has its count below the bound.
 pub fn view_ok(card: &[u8], g: Geo, v: View, bound: u32) -> bool
@@ -26,10 +25,7 @@ pub fn view_ok(card: &[u8], g: Geo, v: View, bound: u32) -> bool
     if !entries {
         return false;
     }
-    let n = page_at(card, g, v);
-    let at = 512 * (n.0 as usize);
-    let end = at + 512;
-    tally::page_ok(card, g, v, &card[at..end])
+    tally::pages_ok(card, g, v)
 }
 
 // Whether an image is sound by a geometry.

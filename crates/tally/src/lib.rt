@@ -1,15 +1,19 @@
 // The bitmap's rule, tested with no map: from the ones of the bitmap's words and the files' own runs.
 ghost use mathlib.Core.Path.{_≡_};
-ghost use Prim.Native.Nat.{_+_, _*_, _≤_};
-ghost use lib.ListN.{length, drop};
+ghost use Prim.Native.Nat.{_+_, _*_, _%_, _≤_, _<_};
+ghost use lib.ListN.{drop};
 ghost use Rattle.words.specs.Lists.{every, pairwise};
 ghost use Rattle.sectors.specs.Sectors.{sec};
+ghost use Rattle.counts.specs.Geometry.{gP};
 ghost use Rattle.counts.specs.Stamps.{tableIn};
 ghost use Rattle.counts.specs.TableLaws.{InLimits, LaidOut};
 ghost use Rattle.directory.specs.Directory.{entriesOf};
+ghost use Rattle.apages.specs.Ones.{allSet};
 ghost use Rattle.apages.specs.Runs.{pageOk};
+ghost use Rattle.apages.specs.Index.{pageIn};
 ghost use Rattle.card.specs.Files.{filesOf, cover, sectorsOf};
 ghost use Rattle.card.specs.CoverLaws.{RunsOk};
+ghost use Rattle.card.specs.ViewLaws.{PairIn};
 ghost use Rattle.card.specs.Tally.{heldBy, partedFrom, partedIn, fixedBits};
 use counts::Geo;
 use counts::View;
@@ -21,11 +25,25 @@ fn fixed_bits(g: Geo, n: u32) -> u32
     requires { ⌜ InLimits g × (g .s ≤ n) ⌝ }
     ensures { λ r. ⌜ (r ≡ fixedBits g n) × (r ≤ n) ⌝ }
 {
-    let first = g.t + 4 + g.d;
+    let first = counts::data_first(g);
     if g.s < first {
         return n;
     }
     n - (g.s - first)
+}
+
+// Whether the bits of k sectors from a on, all of one page, are set in the page that a view shows.
+fn held(card: &[u8], g: Geo, v: View, a: u32, k: u32) -> bool
+    requires { ⌜ LaidOut g (now card) × (PairIn g (now card) × ((a % 4096 + k ≤ 4096) × (0 < k → a < 4096 * gP g))) ⌝ }
+    ensures { λ r. ⌜ r ≡ allSet (pageIn g (tableIn g v (sec (now (card .entry)))) (sec (now (card .entry)))) a k ⌝ }
+{
+    if k == 0 {
+        return true;
+    }
+    let n = files::page_at(card, g, v, a / 4096);
+    let at = 512 * (n.0 as usize);
+    let end = at + 512;
+    ones::run_set(&card[at..end], (a % 4096) as usize, k as usize)
 }
 
 // The sectors of all files that a view shows.
@@ -43,15 +61,15 @@ fn sectors_in(card: &[u8], g: Geo, v: View) -> u32
     sum
 }
 
-// Whether the bits of every shown run are set in a page.
-fn runs_set(card: &[u8], g: Geo, v: View, p: &[u8]) -> bool
-    requires { ⌜ LaidOut g (now card) × ((length (now p) ≡ 512) × RunsOk g (tableIn g v (sec (now card))) (entriesOf g (sec (now card)))) ⌝ }
-    ensures { λ r. ⌜ r ≡ every (heldBy (tableIn g v (sec (now (card .entry)))) (now (p .entry))) (entriesOf g (sec (now (card .entry)))) ⌝ }
+// Whether the bits of every shown run are set.
+fn runs_set(card: &[u8], g: Geo, v: View) -> bool
+    requires { ⌜ LaidOut g (now card) × (PairIn g (now card) × RunsOk g (tableIn g v (sec (now card))) (entriesOf g (sec (now card)))) ⌝ }
+    ensures { λ r. ⌜ r ≡ every (heldBy (tableIn g v (sec (now (card .entry)))) (pageIn g (tableIn g v (sec (now (card .entry)))) (sec (now (card .entry))))) (entriesOf g (sec (now (card .entry)))) ⌝ }
 {
     let mut j = 0;
     while j < 4 * (g.d as usize) {
         let r = run_at(card, g, v, j);
-        let ok = ones::run_set(p, r.start.0 as usize, r.sectors as usize);
+        let ok = held(card, g, v, r.start.0, r.sectors);
         if !ok {
             return false;
         }
@@ -102,17 +120,19 @@ fn runs_apart(card: &[u8], g: Geo, v: View) -> bool
     true
 }
 
-// Whether a page has set exactly the bits below F, from S up, and of the sectors of the shown files, each in one file; for runs that are well formed.
-pub fn page_ok(card: &[u8], g: Geo, v: View, p: &[u8]) -> bool
-    requires { ⌜ LaidOut g (now card) × ((length (now p) ≡ 512) × RunsOk g (tableIn g v (sec (now card))) (entriesOf g (sec (now card)))) ⌝ }
-    ensures { λ r. ⌜ r ≡ pageOk g (cover (filesOf (tableIn g v (sec (now (card .entry)))) (entriesOf g (sec (now (card .entry)))))) (now (p .entry)) ⌝ }
+// Whether the pages that a view shows have set exactly the bits below F, from S up, and of the sectors of the shown files, each in one file; for
+// runs that are well formed.
+pub fn pages_ok(card: &[u8], g: Geo, v: View) -> bool
+    requires { ⌜ LaidOut g (now card) × (PairIn g (now card) × RunsOk g (tableIn g v (sec (now card))) (entriesOf g (sec (now card)))) ⌝ }
+    ensures { λ r. ⌜ r ≡ pageOk g (cover (filesOf (tableIn g v (sec (now (card .entry)))) (entriesOf g (sec (now (card .entry)))))) (pageIn g (tableIn g v (sec (now (card .entry)))) (sec (now (card .entry)))) ⌝ }
 {
-    let first = (g.t + 4 + g.d) as usize;
-    let last = g.s as usize;
-    let low = ones::run_set(p, 0, first);
-    let high = ones::run_set(p, last, 8 * p.len() - last);
-    let set = runs_set(card, g, v, p);
+    let bits = 4096 * counts::pairs(g);
+    let first = counts::data_first(g);
+    let low = held(card, g, v, 0, first);
+    let high = held(card, g, v, g.s, bits - g.s);
+    let set = runs_set(card, g, v);
     let apart = runs_apart(card, g, v);
-    let count = fixed_bits(g, 8 * (p.len() as u32)) + sectors_in(card, g, v);
-    low & high & set & apart & (ones::set_bits(p) == count)
+    let ones = bits - files::clear_in(card, g, v);
+    let count = fixed_bits(g, bits) + sectors_in(card, g, v);
+    low & high & set & apart & (ones == count)
 }

@@ -16,19 +16,10 @@ use Rattle.agree.proofs.entries_at_most.Statement.{statement}
 use Rattle.agree.proofs.entries_at_most.Tie as tie
 
 abbrev Inv-loop : tie.InvT-loop
-Inv-loop s work first n j₀ j = (j ≤ n) × (every (entryAtMost s) (entriesOf (s .geo) (sec work)) ≡ every (entryAtMost s) (drop j (entriesOf (s .geo) (sec work))))
+Inv-loop s work g n j₀ j = (j ≤ n) × (every (entryAtMost s) (entriesOf (s .geo) (sec work)) ≡ every (entryAtMost s) (drop j (entriesOf (s .geo) (sec work))))
 
 abbrev μ-loop : tie.MeasureT-loop
-μ-loop s work first n j₀ j = n - j
-
-cast-first : tie.Need-cast-first Inv-loop μ-loop
-cast-first c = search needs
-
-add-first : tie.Need-add-first Inv-loop μ-loop
-add-first c = search needs
-
-mul-first : tie.Need-mul-first Inv-loop μ-loop
-mul-first c = search needs
+μ-loop s work g n j₀ j = n - j
 
 cast-n : tie.Need-cast-n Inv-loop μ-loop
 cast-n c = search needs
@@ -39,11 +30,8 @@ mul-n c = search needs
 loop-holds : tie.Need-loop-holds Inv-loop μ-loop
 loop-holds c = (omega arith, refl)
 
-mul-at : tie.Need-mul-at Inv-loop μ-loop
-mul-at c = search needs
-
-add-at : tie.Need-add-at Inv-loop μ-loop
-add-at c = search needs
+place-of-requires : tie.Need-place-of-requires Inv-loop μ-loop
+place-of-requires c κs = search needs
 
 add-end : tie.Need-add-end Inv-loop μ-loop
 add-end c = search needs
@@ -63,9 +51,9 @@ entry-at-most-requires c κs = search needs
 returns : tie.Need-returns Inv-loop μ-loop
 returns c =
     let a = c .before .before .before .before .before .before .before .before .before .args in
-    let h = c .before .before .before .loop-test .taken in
-    let e = entry-test (a .s .geo) (now (a .work)) _ (entryAtMost (a .s)) h (c .before .entry-at-most .ensures) in
-    every-stop _ _ [] _ _ (entries-lt _ _ _ h) e (c .if1 .taken) (c .before .before .before .before .loop .inv .1)
+    let h = c .before .before .before .before .loop-test .taken in
+    let e = entry-test (a .s .geo) (now (a .work)) _ _ (entryAtMost (a .s)) (c .before .before .before .place-of .ensures) h (c .before .entry-at-most .ensures) in
+    every-stop _ _ [] _ _ (entries-lt _ _ _ h) e (c .if1 .taken) (c .before .before .before .before .before .loop .inv .1)
 
 add-j : tie.Need-add-j Inv-loop μ-loop
 add-j c = search needs
@@ -76,9 +64,9 @@ loop-less c = search needs
 loop-again : tie.Need-loop-again Inv-loop μ-loop
 loop-again c =
     let a = c .before .before .before .before .before .before .before .before .before .args in
-    let h = c .before .before .before .loop-test .taken in
-    let e = entry-test (a .s .geo) (now (a .work)) _ (entryAtMost (a .s)) h (c .before .entry-at-most .ensures) in
-    (omega arith, every-go _ _ [] _ _ (entries-lt _ _ _ h) e (c .if1 .left) (c .before .before .before .before .loop .inv .1))
+    let h = c .before .before .before .before .loop-test .taken in
+    let e = entry-test (a .s .geo) (now (a .work)) _ _ (entryAtMost (a .s)) (c .before .before .before .place-of .ensures) h (c .before .entry-at-most .ensures) in
+    (omega arith, every-go _ _ [] _ _ (entries-lt _ _ _ h) e (c .if1 .left) (c .before .before .before .before .before .loop .inv .1))
 
 returns-2 : tie.Need-returns-2 Inv-loop μ-loop
 returns-2 c = every-end _ _ [] _ (entries-le _ _ _ (c .loop-test .left)) (c .before .loop .inv .1)
@@ -89,14 +77,10 @@ entries-at-most-spec =
     (tie.spec
     Inv-loop
     μ-loop
-    cast-first
-    add-first
-    mul-first
     cast-n
     mul-n
     loop-holds
-    mul-at
-    add-at
+    place-of-requires
     add-end
     sub-entry-at-most
     part-entry-at-most-start

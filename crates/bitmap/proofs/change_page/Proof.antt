@@ -6,7 +6,6 @@ use Rattle.words.specs.Lists.{setPart}
 use Rattle.words.specs.SpliceLaws.{part-back}
 use Rattle.sectors.specs.Sectors.{sec, setSec}
 use Rattle.sectors.specs.SectorLaws.{sec-part, sec-length}
-use Rattle.apages.specs.Bits.{setRun}
 use Rattle.apages.specs.RunLaws.{setRun-length}
 use borrow.Author.Needs.{needs}
 use Rattle.bitmap.proofs.change_page.Statement.{statement}
@@ -21,17 +20,17 @@ mul-at c = search needs
 add-end : tie.Need-add-end
 add-end c = search needs
 
-sub-change-runs : tie.Need-sub-change-runs
-sub-change-runs c = search needs
+sub-set-run : tie.Need-sub-set-run
+sub-set-run c = search needs
 
-part-change-runs-start : tie.Need-part-change-runs-start
-part-change-runs-start c = search needs
+part-set-run-start : tie.Need-part-set-run-start
+part-set-run-start c = search needs
 
-part-change-runs-end : tie.Need-part-change-runs-end
-part-change-runs-end c = search needs
+part-set-run-end : tie.Need-part-set-run-end
+part-set-run-end c = search needs
 
-change-runs-requires : tie.Need-change-runs-requires
-change-runs-requires c κs = search needs
+set-run-requires : tie.Need-set-run-requires
+set-run-requires c κs = search needs
 
 same-length : tie.Need-same-length
 same-length c = search needs
@@ -41,9 +40,8 @@ unfolding setSec setPart
 returns c =
     let s = c .before .before .before .before .before .before .args in
     let p = sec (now (s .img)) (s .i .0) in
-    rw (c .before .before .change-runs .ensures, sec-part (now (s .img)) (s .i .0))
-    (part-back _ _ _ _ (omega arith) (omega arith)
-    (setRun-length (setRun p (s .a .0) (s .k) 1) (s .b .0) (s .m) 0 ∙ setRun-length p (s .a .0) (s .k) 1 ∙ sec-length (now (s .img)) (s .i .0) (omega arith) ∙ omega arith))
+    rw (c .before .before .set-run .ensures, sec-part (now (s .img)) (s .i .0))
+    (part-back _ _ _ _ (omega arith) (omega arith) (setRun-length p (s .a) (s .n) (s .v) ∙ sec-length (now (s .img)) (s .i .0) (omega arith) ∙ omega arith))
 
 pub change-page-spec : {M : Type 1} → statement M
 change-page-spec =
@@ -52,9 +50,9 @@ change-page-spec =
     cast-at
     mul-at
     add-end
-    sub-change-runs
-    part-change-runs-start
-    part-change-runs-end
-    change-runs-requires
+    sub-set-run
+    part-set-run-start
+    part-set-run-end
+    set-run-requires
     same-length
     returns)

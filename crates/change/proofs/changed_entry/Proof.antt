@@ -4,20 +4,8 @@ use Rattle.store.specs.ViewLaws.{changed-here}
 use Rattle.change.proofs.changed_entry.Statement.{statement}
 use Rattle.change.proofs.changed_entry.Tie as tie
 
-cast-at : tie.Need-cast-at
-cast-at c = search needs
-
-add-at : tie.Need-add-at
-add-at c = search needs
-
-mul-at : tie.Need-mul-at
-mul-at c = search needs
-
-mul-at-2 : tie.Need-mul-at-2
-mul-at-2 c = search needs
-
-add-at-2 : tie.Need-add-at-2
-add-at-2 c = search needs
+place-of-requires : tie.Need-place-of-requires
+place-of-requires c κs = search needs
 
 entry-at-requires : tie.Need-entry-at-requires
 entry-at-requires c κs = search needs
@@ -35,17 +23,13 @@ changed-requires : tie.Need-changed-requires
 changed-requires c κs = search needs
 
 returns : tie.Need-returns
-returns c = changed-here _ _ _ _ _ (c .before .before .before .before .before .before .before .before .before .before .pre .1 .0) (c .before .before .before .present-view .ensures) (c .before .before .before .before .own-stamp .ensures) (c .before .before .before .before .before .entry-at .ensures) (c .before .stands .ensures) (c .changed .ensures)
+returns c = let z = c .before .before .before .before .before .before in changed-here _ _ _ _ _ _ (z .place-of .ensures) (z .before .before .before .before .pre .1 .0) (c .before .before .before .present-view .ensures) (c .before .before .before .before .own-stamp .ensures) (c .before .before .before .before .before .entry-at .ensures) (c .before .stands .ensures) (c .changed .ensures)
 
 pub changed-entry-spec : {M : Type 1} → statement M
 changed-entry-spec =
     tie.close
     (tie.spec
-    cast-at
-    add-at
-    mul-at
-    mul-at-2
-    add-at-2
+    place-of-requires
     entry-at-requires
     own-stamp-requires
     present-view-requires

@@ -1,6 +1,7 @@
 -- Every decision is made before the first write; content and entry leave the table and the index as they are. Assumes nothing.
 use native.Mathlib.Omega.{arith}
 use borrow.Author.Needs.{needs}
+use Rattle.counts.specs.TableLaws.{pages-few}
 use Rattle.store.specs.ViewLaws.{run-at-here}
 use Rattle.store.specs.EditLaws.{edit-laid, edit-pair, edit-done}
 use Rattle.change.proofs.edit.Statement.{statement}
@@ -19,10 +20,10 @@ changed-entry-requires : tie.Need-changed-entry-requires
 changed-entry-requires c κs = search needs
 
 put-content-requires : tie.Need-put-content-requires
-put-content-requires c κs = let p = c .before .before .before .before .before .before .before .before .before .before .before .pre in (p .enough, (p .top, p .room))
+put-content-requires c κs = let s = c .before .before .before .before .before .before .before .before .before .before .before in let p = s .pre in (p .enough, (omega (arith, p .top, pages-few (s .args .s .geo) (p .laid .s)), p .room))
 
 set-entry-requires : tie.Need-set-entry-requires
-set-entry-requires c κs = let p = c .before .before .before .before .before .before .before .before .before .before .before .before .before .before .before .pre in (record { s = p .laid .s; t = p .laid .t; d = p .laid .d; room = omega (arith, p .laid .room) }, p .below)
+set-entry-requires c κs = let p = c .before .before .before .before .before .before .before .before .before .before .before .before .before .before .before .pre in (record { s = p .laid .s; t = p .laid .t; d = p .laid .d; past = p .laid .past; dir = p .laid .dir; room = omega (arith, p .laid .room) }, p .below)
 
 change-bits-requires : tie.Need-change-bits-requires
 change-bits-requires c κs =
@@ -30,7 +31,8 @@ change-bits-requires c κs =
     let p = s .pre in
     let l = edit-laid _ _ _ _ _ _ _ (s .args .v) p (c .before .before .before .before .before .before .before .before .before .changed-entry .ensures) (c .before .before .before .before .before .before .before .put-content .ensures) (c .before .before .before .set-entry .ensures) in
     let q = edit-pair _ _ _ _ _ _ _ (s .args .v) p (c .before .before .before .before .before .before .before .before .before .changed-entry .ensures) (c .before .before .before .before .before .before .before .put-content .ensures) (c .before .before .before .set-entry .ensures) in
-    (l, (q, (p .top, rw (run-at-here (s .args .s) _ (s .args .j) (c .before .before .before .before .before .before .before .before .before .before .before .before .before .present-view .ensures) (c .before .before .before .before .before .before .before .before .before .before .before .run-at .ensures)) (p .earlier))))
+    let run = run-at-here (s .args .s) _ (s .args .j) (c .before .before .before .before .before .before .before .before .before .before .before .before .before .present-view .ensures) (c .before .before .before .before .before .before .before .before .before .before .before .run-at .ensures) in
+    (l, (q, ((p .page, λ n. omega (arith, p .top, n)), (rw run (p .earlierPage), rw run (λ n. omega (arith, p .earlier, n))))))
 
 same-length : tie.Need-same-length
 same-length c = search needs

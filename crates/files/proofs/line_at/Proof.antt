@@ -5,20 +5,8 @@ use Rattle.card.specs.LineLaws.{line-here, lineOf}
 use Rattle.files.proofs.line_at.Statement.{statement}
 use Rattle.files.proofs.line_at.Tie as tie
 
-cast-at : tie.Need-cast-at
-cast-at c = search needs
-
-add-at : tie.Need-add-at
-add-at c = search needs
-
-mul-at : tie.Need-mul-at
-mul-at c = search needs
-
-mul-at-2 : tie.Need-mul-at-2
-mul-at-2 c = search needs
-
-add-at-2 : tie.Need-add-at-2
-add-at-2 c = search needs
+place-of-requires : tie.Need-place-of-requires
+place-of-requires c κs = search needs
 
 add-end : tie.Need-add-end
 add-end c = search needs
@@ -39,17 +27,15 @@ line-of-requires : tie.Need-line-of-requires
 line-of-requires c κs = search needs
 
 returns : tie.Need-returns
-returns c = line-here _ _ _ (c .before .before .before .before .before .pre .1) _ (c .line-of .ensures) ∙ ap (lineOf _) (c .before .before .run-at .ensures)
+returns c =
+    let z = c .before .before .before in
+    line-here _ _ _ _ (z .place-of .ensures) (z .before .before .pre .1) _ (c .line-of .ensures) ∙ ap (lineOf _) (c .before .before .run-at .ensures)
 
 pub line-at-spec : {M : Type 1} → statement M
 line-at-spec =
     tie.close
     (tie.spec
-    cast-at
-    add-at
-    mul-at
-    mul-at-2
-    add-at-2
+    place-of-requires
     add-end
     run-at-requires
     sub-line-of

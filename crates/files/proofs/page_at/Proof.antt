@@ -1,17 +1,13 @@
--- The bytes lent are the index sector. Assumes nothing.
-use borrow.Author.Needs.{needs}
+-- The bytes lent are group p of the index. Assumes nothing.
+use native.Mathlib.Omega.{arith}
+use Rattle.counts.specs.TableLaws.{pages-few}
 use Rattle.card.specs.ViewLaws.{page-here}
+use borrow.Author.Needs.{needs}
 use Rattle.files.proofs.page_at.Statement.{statement}
 use Rattle.files.proofs.page_at.Tie as tie
 
-cast-at : tie.Need-cast-at
-cast-at c = search needs
-
-add-at : tie.Need-add-at
-add-at c = search needs
-
-mul-at : tie.Need-mul-at
-mul-at c = search needs
+group-at-requires : tie.Need-group-at-requires
+group-at-requires c κs = search needs
 
 add-end : tie.Need-add-end
 add-end c = search needs
@@ -23,21 +19,19 @@ part-shown-page-start : tie.Need-part-shown-page-start
 part-shown-page-start c = search needs
 
 part-shown-page-end : tie.Need-part-shown-page-end
-part-shown-page-end c = search needs
+part-shown-page-end c = let z = c .before .before in omega (arith, pages-few (z .args .g) (z .pre .0 .s), z .pre .0 .room, c .group-at .ensures)
 
 shown-page-requires : tie.Need-shown-page-requires
 shown-page-requires c κs = search needs
 
 returns : tie.Need-returns
-returns c = page-here _ _ _ (c .shown-page .ensures)
+returns c = let z = c .before .before .before .before in page-here _ _ _ _ (z .pre .0) (z .pre .1) (rw (c .before .before .group-at .ensures) at (c .shown-page .ensures))
 
 pub page-at-spec : {M : Type 1} → statement M
 page-at-spec =
     tie.close
     (tie.spec
-    cast-at
-    add-at
-    mul-at
+    group-at-requires
     add-end
     sub-shown-page
     part-shown-page-start

@@ -4,20 +4,8 @@ use Rattle.card.specs.LineLaws.{run-here}
 use Rattle.files.proofs.run_at.Statement.{statement}
 use Rattle.files.proofs.run_at.Tie as tie
 
-cast-at : tie.Need-cast-at
-cast-at c = search needs
-
-add-at : tie.Need-add-at
-add-at c = search needs
-
-mul-at : tie.Need-mul-at
-mul-at c = search needs
-
-mul-at-2 : tie.Need-mul-at-2
-mul-at-2 c = search needs
-
-add-at-2 : tie.Need-add-at-2
-add-at-2 c = search needs
+place-of-requires : tie.Need-place-of-requires
+place-of-requires c κs = search needs
 
 add-end : tie.Need-add-end
 add-end c = search needs
@@ -38,17 +26,13 @@ run-of-requires : tie.Need-run-of-requires
 run-of-requires c κs = search needs
 
 returns : tie.Need-returns
-returns c = run-here _ _ _ (c .before .before .before .before .before .pre .1) _ (c .before .shown .ensures) (c .run-of .ensures)
+returns c = run-here _ _ _ _ (c .before .before .before .place-of .ensures) (c .before .before .before .before .before .pre .1) _ (c .before .shown .ensures) (c .run-of .ensures)
 
 pub run-at-spec : {M : Type 1} → statement M
 run-at-spec =
     tie.close
     (tie.spec
-    cast-at
-    add-at
-    mul-at
-    mul-at-2
-    add-at-2
+    place-of-requires
     add-end
     sub-shown
     part-shown-start

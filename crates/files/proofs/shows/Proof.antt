@@ -4,20 +4,8 @@ use Rattle.card.specs.LineLaws.{shows-here}
 use Rattle.files.proofs.shows.Statement.{statement}
 use Rattle.files.proofs.shows.Tie as tie
 
-cast-at : tie.Need-cast-at
-cast-at c = search needs
-
-add-at : tie.Need-add-at
-add-at c = search needs
-
-mul-at : tie.Need-mul-at
-mul-at c = search needs
-
-mul-at-2 : tie.Need-mul-at-2
-mul-at-2 c = search needs
-
-add-at-2 : tie.Need-add-at-2
-add-at-2 c = search needs
+place-of-requires : tie.Need-place-of-requires
+place-of-requires c κs = search needs
 
 add-end : tie.Need-add-end
 add-end c = search needs
@@ -41,17 +29,15 @@ one-if-requires : tie.Need-one-if-requires
 one-if-requires c κs = search needs
 
 returns : tie.Need-returns
-returns c = (shows-here _ _ _ (c .before .before .before .before .before .before .pre .1) _ (c .before .before .shown .ensures) (c .before .is-absent .ensures) (c .one-if .ensures .0), c .one-if .ensures .1)
+returns c =
+    let z = c .before .before .before .before in
+    (shows-here _ _ _ _ (z .place-of .ensures) (z .before .before .pre .1) _ (c .before .before .shown .ensures) (c .before .is-absent .ensures) (c .one-if .ensures .0), c .one-if .ensures .1)
 
 pub shows-spec : {M : Type 1} → statement M
 shows-spec =
     tie.close
     (tie.spec
-    cast-at
-    add-at
-    mul-at
-    mul-at-2
-    add-at-2
+    place-of-requires
     add-end
     sub-shown
     part-shown-start

@@ -1,8 +1,8 @@
 -- Two sectors lent as parts. Assumes nothing.
 use mathlib.Core.Path.{_∙_}
-use borrow.Author.Needs.{needs}
 use denote.Ref.{now}
 use Rattle.sectors.specs.SectorLaws.{sec-part}
+use borrow.Author.Needs.{needs}
 use Rattle.find.proofs.run_between.Statement.{statement}
 use Rattle.find.proofs.run_between.Tie as tie
 
@@ -24,31 +24,31 @@ add-a-end c = search needs
 add-b-end : tie.Need-add-b-end
 add-b-end c = search needs
 
-sub-run-for : tie.Need-sub-run-for
-sub-run-for c = search needs
+sub-lowest-run : tie.Need-sub-lowest-run
+sub-lowest-run c = search needs
 
-part-run-for-start : tie.Need-part-run-for-start
-part-run-for-start c = search needs
+part-lowest-run-start : tie.Need-part-lowest-run-start
+part-lowest-run-start c = search needs
 
-part-run-for-end : tie.Need-part-run-for-end
-part-run-for-end c = search needs
+part-lowest-run-end : tie.Need-part-lowest-run-end
+part-lowest-run-end c = search needs
 
-sub-run-for-2 : tie.Need-sub-run-for-2
-sub-run-for-2 c = search needs
+sub-lowest-run-2 : tie.Need-sub-lowest-run-2
+sub-lowest-run-2 c = search needs
 
-part-run-for-start-2 : tie.Need-part-run-for-start-2
-part-run-for-start-2 c = search needs
+part-lowest-run-start-2 : tie.Need-part-lowest-run-start-2
+part-lowest-run-start-2 c = search needs
 
-part-run-for-end-2 : tie.Need-part-run-for-end-2
-part-run-for-end-2 c = search needs
+part-lowest-run-end-2 : tie.Need-part-lowest-run-end-2
+part-lowest-run-end-2 c = search needs
 
-run-for-requires : tie.Need-run-for-requires
-run-for-requires c κs = search needs
+lowest-run-requires : tie.Need-lowest-run-requires
+lowest-run-requires c κs = search needs
 
 returns : tie.Need-returns
 returns c =
     let a = c .before .before .before .before .before .before .args in
-    c .run-for .ensures ∙ rw (sec-part (now (a .work)) (a .p .0), sec-part (now (a .work)) (a .q .0))
+    c .lowest-run .ensures ∙ rw (sec-part (now (a .work)) (a .p .0), sec-part (now (a .work)) (a .q .0))
 
 pub run-between-spec : {M : Type 1} → statement M
 run-between-spec =
@@ -60,11 +60,11 @@ run-between-spec =
     mul-b
     add-a-end
     add-b-end
-    sub-run-for
-    part-run-for-start
-    part-run-for-end
-    sub-run-for-2
-    part-run-for-start-2
-    part-run-for-end-2
-    run-for-requires
+    sub-lowest-run
+    part-lowest-run-start
+    part-lowest-run-end
+    sub-lowest-run-2
+    part-lowest-run-start-2
+    part-lowest-run-end-2
+    lowest-run-requires
     returns)

@@ -19,20 +19,20 @@ add-to c = search needs
 entries-at-most-requires : tie.Need-entries-at-most-requires
 entries-at-most-requires c κs = search needs
 
-sub-entry-at-most : tie.Need-sub-entry-at-most
-sub-entry-at-most c = search needs
+sub-index-at-most : tie.Need-sub-index-at-most
+sub-index-at-most c = search needs
 
-part-entry-at-most-start : tie.Need-part-entry-at-most-start
-part-entry-at-most-start c = search needs
+part-index-at-most-start : tie.Need-part-index-at-most-start
+part-index-at-most-start c = search needs
 
-part-entry-at-most-end : tie.Need-part-entry-at-most-end
-part-entry-at-most-end c = search needs
+part-index-at-most-end : tie.Need-part-index-at-most-end
+part-index-at-most-end c = search needs
 
-entry-at-most-requires : tie.Need-entry-at-most-requires
-entry-at-most-requires c κs = search needs
+index-at-most-requires : tie.Need-index-at-most-requires
+index-at-most-requires c κs = search needs
 
 returns : tie.Need-returns
-returns c = stamps-here (c .before .before .before .before .before .before .args .s) _ (c .before .before .entries-at-most .ensures) (c .entry-at-most .ensures)
+returns c = stamps-here (c .before .before .before .before .before .before .args .s) _ (c .before .before .entries-at-most .ensures) (c .index-at-most .ensures)
 
 pub stamps-fit-spec : {M : Type 1} → statement M
 stamps-fit-spec =
@@ -43,8 +43,8 @@ stamps-fit-spec =
     mul-from
     add-to
     entries-at-most-requires
-    sub-entry-at-most
-    part-entry-at-most-start
-    part-entry-at-most-end
-    entry-at-most-requires
+    sub-index-at-most
+    part-index-at-most-start
+    part-index-at-most-end
+    index-at-most-requires
     returns)

@@ -1,21 +1,14 @@
 -- Two runs of bits set in a page of zeros. Assumes nothing.
 use borrow.Author.Needs.{needs}
-use Rattle.counts.specs.Geometry.{gF}
-use Rattle.card.specs.BuiltLaws.{fresh-built}
+use Rattle.card.specs.FreshPage.{fresh-built}
 use Rattle.fresh.proofs.fresh_page.Statement.{statement}
 use Rattle.fresh.proofs.fresh_page.Tie as tie
 
-add-f : tie.Need-add-f
-add-f c = search needs
+data-from-requires : tie.Need-data-from-requires
+data-from-requires c κs = search needs
 
-add-f-2 : tie.Need-add-f-2
-add-f-2 c = search needs
-
-cast-f : tie.Need-cast-f
-cast-f c = search needs
-
-cast-s : tie.Need-cast-s
-cast-s c = search needs
+data-to-requires : tie.Need-data-to-requires
+data-to-requires c κs = search needs
 
 slice-aggregate-set-run : tie.Need-slice-aggregate-set-run
 slice-aggregate-set-run c = search needs
@@ -33,17 +26,18 @@ set-run-requires-2 : tie.Need-set-run-requires-2
 set-run-requires-2 c κs = search needs
 
 returns : tie.Need-returns
-unfolding gF
-returns c = fresh-built _ (c .before .before .before .before .before .before .before .before .before .pre) (c .before .before .before .before .set-run .ensures) (c .before .set-run2 .ensures)
+returns c =
+    let s = c .before .before .before .before in
+    let f = s .before .before .before .data-from .ensures .0 in
+    let t = s .before .before .data-to .ensures .0 in
+    fresh-built _ (s .before .before .before .before .pre .0) _ (rw f at (s .set-run .ensures)) (rw t at (c .before .set-run2 .ensures))
 
 pub fresh-page-spec : {M : Type 1} → statement M
 fresh-page-spec =
     tie.close
     (tie.spec
-    add-f
-    add-f-2
-    cast-f
-    cast-s
+    data-from-requires
+    data-to-requires
     slice-aggregate-set-run
     set-run-requires
     slice-aggregate-set-run-2

@@ -1,7 +1,7 @@
--- Four sectors written over zeros. Assumes nothing.
-use native.Mathlib.Omega.{arith}
+-- Block, index and pages written over zeros. Assumes nothing.
+use mathlib.Core.Path.{_∙_}
 use borrow.Author.Needs.{needs}
-use Rattle.card.specs.MakeLaws.{fresh-written}
+use Rattle.card.specs.MakeLaws.{fresh-start}
 use Rattle.fresh.proofs.make_in.Statement.{statement}
 use Rattle.fresh.proofs.make_in.Tie as tie
 
@@ -10,9 +10,6 @@ fresh-block-requires c κs = search needs
 
 fresh-index-requires : tie.Need-fresh-index-requires
 fresh-index-requires c κs = search needs
-
-fresh-page-requires : tie.Need-fresh-page-requires
-fresh-page-requires c κs = search needs
 
 clear-requires : tie.Need-clear-requires
 clear-requires c κs = search needs
@@ -23,8 +20,8 @@ slice-aggregate-write-sector c = search needs
 write-sector-requires : tie.Need-write-sector-requires
 write-sector-requires c κs = search needs
 
-add-t17 : tie.Need-add-t17
-add-t17 c = search needs
+add-t16 : tie.Need-add-t16
+add-t16 c = search needs
 
 slice-aggregate-write-sector-2 : tie.Need-slice-aggregate-write-sector-2
 slice-aggregate-write-sector-2 c = search needs
@@ -32,29 +29,19 @@ slice-aggregate-write-sector-2 c = search needs
 write-sector-requires-2 : tie.Need-write-sector-requires-2
 write-sector-requires-2 c κs = search needs
 
-add-t17-2 : tie.Need-add-t17-2
-add-t17-2 c = search needs
-
-slice-aggregate-write-sector-3 : tie.Need-slice-aggregate-write-sector-3
-slice-aggregate-write-sector-3 c = search needs
-
-write-sector-requires-3 : tie.Need-write-sector-requires-3
-write-sector-requires-3 c κs = search needs
-
-add-t17-3 : tie.Need-add-t17-3
-add-t17-3 c = search needs
-
-slice-aggregate-write-sector-4 : tie.Need-slice-aggregate-write-sector-4
-slice-aggregate-write-sector-4 c = search needs
-
-write-sector-requires-4 : tie.Need-write-sector-requires-4
-write-sector-requires-4 c κs = (omega (arith, c .before .before .before .before .before .before .before .before .before .before .before .before .before .before .before .before .before .before .before .before .before .before .before .before .before .before .before .before .pre .0 .room, c .before .before .before .before .before .write-sector3 .kept .0, c .before .before .before .before .before .before .before .before .before .before .before .write-sector2 .kept .0, c .before .before .before .before .before .before .before .before .before .before .before .before .before .before .before .before .before .write-sector .kept .0, c .before .before .before .before .before .before .before .before .before .before .before .before .before .before .before .before .before .before .before .before .before .before .clear .kept .0), search needs)
+fresh-pages-requires : tie.Need-fresh-pages-requires
+fresh-pages-requires c κs = search needs
 
 same-length : tie.Need-same-length
 same-length c = search needs
 
 returns : tie.Need-returns
-returns c = fresh-written _ _ (c .before .before .before .before .before .before .before .before .before .before .before .before .before .before .before .before .before .before .before .before .before .before .before .before .before .before .before .before .before .before .before .pre .1) (c .before .before .before .before .before .before .before .before .before .before .before .before .before .before .before .before .before .before .before .before .before .before .before .before .before .clear .ensures) (c .before .before .before .before .before .before .before .before .before .before .before .before .before .before .before .before .before .before .before .before .before .before .before .before .before .before .before .before .before .fresh-block .ensures) (c .before .before .before .before .before .before .before .before .before .before .before .before .before .before .before .before .before .before .before .before .before .before .before .before .before .before .before .before .fresh-index .ensures) (c .before .before .before .before .before .before .before .before .before .before .before .before .before .before .before .before .before .before .before .before .before .before .before .before .before .before .before .fresh-page .ensures) (c .before .before .before .before .before .before .before .before .before .before .before .before .before .before .before .before .before .before .before .before .write-sector .ensures) (c .before .before .before .before .before .before .before .before .before .before .before .before .before .before .write-sector2 .ensures) (c .before .before .before .before .before .before .before .before .write-sector3 .ensures) (c .before .before .write-sector4 .ensures)
+returns c =
+    let w = c .before .before .before .before .before .before in
+    let z = w .before .before .before .before .before .before in
+    let s = z .before .before .before .before .before in
+    c .before .before .fresh-pages .ensures
+    ∙ fresh-start _ _ (s .before .before .before .before .before .pre .1) (s .clear .ensures) (s .before .before .before .fresh-block .ensures) (s .before .before .fresh-index .ensures) (z .write-sector .ensures) (w .write-sector2 .ensures)
 
 pub make-in-spec : {M : Type 1} → statement M
 make-in-spec =
@@ -62,18 +49,12 @@ make-in-spec =
     (tie.spec
     fresh-block-requires
     fresh-index-requires
-    fresh-page-requires
     clear-requires
     slice-aggregate-write-sector
     write-sector-requires
-    add-t17
+    add-t16
     slice-aggregate-write-sector-2
     write-sector-requires-2
-    add-t17-2
-    slice-aggregate-write-sector-3
-    write-sector-requires-3
-    add-t17-3
-    slice-aggregate-write-sector-4
-    write-sector-requires-4
+    fresh-pages-requires
     same-length
     returns)

@@ -1,4 +1,4 @@
--- Four words of the sector. Assumes nothing.
+-- Four words of the bytes. Assumes nothing.
 use Rattle.apages.specs.Index.{indexOf}
 use borrow.Author.Needs.{needs}
 use Rattle.index.proofs.index_of.Statement.{statement}

@@ -1,24 +1,32 @@
 -- The test is the definition. Assumes nothing.
+use native.Mathlib.Omega.{arith}
+use Rattle.counts.specs.TableLaws.{pages-few}
 use Rattle.apages.specs.Index.{pairOk}
 use borrow.Author.Needs.{needs}
 use Rattle.index.proofs.pair_ok.Statement.{statement}
 use Rattle.index.proofs.pair_ok.Tie as tie
 
-add-result : tie.Need-add-result
-add-result c = search needs
+add-low : tie.Need-add-low
+add-low c = search needs
 
-add-result-2 : tie.Need-add-result-2
-add-result-2 c = search needs
+mul-low : tie.Need-mul-low
+mul-low c = omega (arith, pages-few (c .before .args .g) (c .before .pre .0 .s))
 
-add-result-3 : tie.Need-add-result-3
-add-result-3 c = search needs
+add-low-2 : tie.Need-add-low-2
+add-low-2 c = omega (arith, pages-few (c .before .args .g) (c .before .pre .0 .s))
 
-add-result-4 : tie.Need-add-result-4
-add-result-4 c = search needs
+add-high : tie.Need-add-high
+add-high c = search needs
+
+mul-high : tie.Need-mul-high
+mul-high c = omega (arith, pages-few (c .before .before .args .g) (c .before .before .pre .0 .s))
+
+add-high-2 : tie.Need-add-high-2
+add-high-2 c = omega (arith, pages-few (c .before .before .args .g) (c .before .before .pre .0 .s))
 
 returns : tie.Need-returns
 unfolding pairOk
 returns c = search needs
 
 pub pair-ok-spec : {M : Type 1} → statement M
-pair-ok-spec = tie.close (tie.spec add-result add-result-2 add-result-3 add-result-4 returns)
+pair-ok-spec = tie.close (tie.spec add-low mul-low add-low-2 add-high mul-high add-high-2 returns)

@@ -14,12 +14,12 @@ alive-requires c κs = search needs
 returns : tie.Need-returns
 returns c =
     let s = c .before .before .before .before .before .before .before in
-    page-new (s .args .g) _ (now (s .args .ix)) (c .before .before .before .before .index-of .ensures) (c .before .before .alive .ensures) (c .before .if1 .taken)
+    page-new (s .args .g) _ (now (s .args .x)) (c .before .before .before .before .index-of .ensures) (c .before .before .alive .ensures) (c .before .if1 .taken)
 
 returns-2 : tie.Need-returns-2
 returns-2 c =
     let s = c .before .before .before .before .before .before .before in
-    page-old (s .args .g) _ (now (s .args .ix)) (c .before .before .before .before .index-of .ensures) (c .before .before .alive .ensures) (c .before .if1 .left)
+    page-old (s .args .g) _ (now (s .args .x)) (c .before .before .before .before .index-of .ensures) (c .before .before .alive .ensures) (c .before .if1 .left)
 
 pub shown-page-spec : {M : Type 1} → statement M
 shown-page-spec = tie.close (tie.spec index-of-requires alive-requires returns returns-2)

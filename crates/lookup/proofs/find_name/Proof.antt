@@ -16,19 +16,10 @@ use Rattle.lookup.proofs.find_name.Statement.{statement}
 use Rattle.lookup.proofs.find_name.Tie as tie
 
 abbrev Inv-loop : tie.InvT-loop
-Inv-loop card g v w name first n j₀ j = (j ≤ n) × (firstAt (named (tableIn g v (sec card)) (tableIn g w (sec card)) name) 0 (entriesOf g (sec card)) ≡ firstAt (named (tableIn g v (sec card)) (tableIn g w (sec card)) name) j (drop j (entriesOf g (sec card))))
+Inv-loop card g v w name n j₀ j = (j ≤ n) × (firstAt (named (tableIn g v (sec card)) (tableIn g w (sec card)) name) 0 (entriesOf g (sec card)) ≡ firstAt (named (tableIn g v (sec card)) (tableIn g w (sec card)) name) j (drop j (entriesOf g (sec card))))
 
 abbrev μ-loop : tie.MeasureT-loop
-μ-loop card g v w name first n j₀ j = n - j
-
-cast-first : tie.Need-cast-first Inv-loop μ-loop
-cast-first c = search needs
-
-add-first : tie.Need-add-first Inv-loop μ-loop
-add-first c = search needs
-
-mul-first : tie.Need-mul-first Inv-loop μ-loop
-mul-first c = search needs
+μ-loop card g v w name n j₀ j = n - j
 
 cast-n : tie.Need-cast-n Inv-loop μ-loop
 cast-n c = search needs
@@ -39,11 +30,8 @@ mul-n c = search needs
 loop-holds : tie.Need-loop-holds Inv-loop μ-loop
 loop-holds c = (omega arith, refl)
 
-mul-at : tie.Need-mul-at Inv-loop μ-loop
-mul-at c = search needs
-
-add-at : tie.Need-add-at Inv-loop μ-loop
-add-at c = search needs
+place-of-requires : tie.Need-place-of-requires Inv-loop μ-loop
+place-of-requires c κs = search needs
 
 add-end : tie.Need-add-end Inv-loop μ-loop
 add-end c = search needs
@@ -63,9 +51,9 @@ is-named-requires c κs = search needs
 returns : tie.Need-returns Inv-loop μ-loop
 returns c =
     let a = c .before .before .before .before .before .before .before .before .before .args in
-    let h = c .before .before .before .loop-test .taken in
-    let e = entry-test (a .g) (now (a .card)) _ (named (tableIn (a .g) (a .v) (sec (now (a .card)))) (tableIn (a .g) (a .w) (sec (now (a .card)))) (now (a .name))) h (c .before .is-named .ensures) in
-    first-stop _ _ [] _ _ (entries-lt _ _ _ h) e (c .if1 .taken) (c .before .before .before .before .loop .inv .1)
+    let h = c .before .before .before .before .loop-test .taken in
+    let e = entry-test (a .g) (now (a .card)) _ _ (named (tableIn (a .g) (a .v) (sec (now (a .card)))) (tableIn (a .g) (a .w) (sec (now (a .card)))) (now (a .name))) (c .before .before .before .place-of .ensures) h (c .before .is-named .ensures) in
+    first-stop _ _ [] _ _ (entries-lt _ _ _ h) e (c .if1 .taken) (c .before .before .before .before .before .loop .inv .1)
 
 add-j : tie.Need-add-j Inv-loop μ-loop
 add-j c = search needs
@@ -76,9 +64,9 @@ loop-less c = search needs
 loop-again : tie.Need-loop-again Inv-loop μ-loop
 loop-again c =
     let a = c .before .before .before .before .before .before .before .before .before .args in
-    let h = c .before .before .before .loop-test .taken in
-    let e = entry-test (a .g) (now (a .card)) _ (named (tableIn (a .g) (a .v) (sec (now (a .card)))) (tableIn (a .g) (a .w) (sec (now (a .card)))) (now (a .name))) h (c .before .is-named .ensures) in
-    (omega arith, first-go _ _ [] _ _ (entries-lt _ _ _ h) e (c .if1 .left) (c .before .before .before .before .loop .inv .1))
+    let h = c .before .before .before .before .loop-test .taken in
+    let e = entry-test (a .g) (now (a .card)) _ _ (named (tableIn (a .g) (a .v) (sec (now (a .card)))) (tableIn (a .g) (a .w) (sec (now (a .card)))) (now (a .name))) (c .before .before .before .place-of .ensures) h (c .before .is-named .ensures) in
+    (omega arith, first-go _ _ [] _ _ (entries-lt _ _ _ h) e (c .if1 .left) (c .before .before .before .before .before .loop .inv .1))
 
 returns-2 : tie.Need-returns-2 Inv-loop μ-loop
 returns-2 c = first-end _ _ [] _ (entries-le _ _ _ (c .loop-test .left)) (c .before .loop .inv .1)
@@ -89,14 +77,10 @@ find-name-spec =
     (tie.spec
     Inv-loop
     μ-loop
-    cast-first
-    add-first
-    mul-first
     cast-n
     mul-n
     loop-holds
-    mul-at
-    add-at
+    place-of-requires
     add-end
     sub-is-named
     part-is-named-start

@@ -9,20 +9,8 @@ use Rattle.directory.specs.DirectoryLaws.{entry-test}
 use Rattle.roll.proofs.alone.Statement.{statement}
 use Rattle.roll.proofs.alone.Tie as tie
 
-cast-at : tie.Need-cast-at
-cast-at c = search needs
-
-add-at : tie.Need-add-at
-add-at c = search needs
-
-mul-at : tie.Need-mul-at
-mul-at c = search needs
-
-mul-at-2 : tie.Need-mul-at-2
-mul-at-2 c = search needs
-
-add-at-2 : tie.Need-add-at-2
-add-at-2 c = search needs
+place-of-requires : tie.Need-place-of-requires
+place-of-requires c κs = search needs
 
 add-end : tie.Need-add-end
 add-end c = search needs
@@ -44,7 +32,7 @@ returns c =
     let a = c .before .before .before .before .before .args in
     let tp = tableIn (a .g) (a .v) (sec (now (a .card))) in
     let tc = tableIn (a .g) (a .w) (sec (now (a .card))) in
-    gone-apart tp tc _ _ _ (entry-test (a .g) (now (a .card)) _ (gone tp tc) (search needs) (c .before .is-gone .ensures)) (c .if1 .taken)
+    gone-apart tp tc _ _ _ (entry-test (a .g) (now (a .card)) _ _ (gone tp tc) (c .before .before .before .place-of .ensures) (search needs) (c .before .is-gone .ensures)) (c .if1 .taken)
 
 apart-from-requires : tie.Need-apart-from-requires
 apart-from-requires c κs = search needs
@@ -56,11 +44,7 @@ pub alone-spec : {M : Type 1} → statement M
 alone-spec =
     tie.close
     (tie.spec
-    cast-at
-    add-at
-    mul-at
-    mul-at-2
-    add-at-2
+    place-of-requires
     add-end
     sub-is-gone
     part-is-gone-start

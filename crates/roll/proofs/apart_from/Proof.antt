@@ -16,19 +16,10 @@ use Rattle.roll.proofs.apart_from.Statement.{statement}
 use Rattle.roll.proofs.apart_from.Tie as tie
 
 abbrev Inv-loop : tie.InvT-loop
-Inv-loop card g v w i first n from to j₀ j = (j ≤ n) × (every (apart (tableIn g v (sec card)) (tableIn g w (sec card)) (getD (entriesOf g (sec card)) i [])) (drop (i + 1) (entriesOf g (sec card))) ≡ every (apart (tableIn g v (sec card)) (tableIn g w (sec card)) (getD (entriesOf g (sec card)) i [])) (drop j (entriesOf g (sec card))))
+Inv-loop card g v w i n from to j₀ j = (j ≤ n) × (every (apart (tableIn g v (sec card)) (tableIn g w (sec card)) (getD (entriesOf g (sec card)) i [])) (drop (i + 1) (entriesOf g (sec card))) ≡ every (apart (tableIn g v (sec card)) (tableIn g w (sec card)) (getD (entriesOf g (sec card)) i [])) (drop j (entriesOf g (sec card))))
 
 abbrev μ-loop : tie.MeasureT-loop
-μ-loop card g v w i first n from to j₀ j = n - j
-
-cast-first : tie.Need-cast-first Inv-loop μ-loop
-cast-first c = search needs
-
-add-first : tie.Need-add-first Inv-loop μ-loop
-add-first c = search needs
-
-mul-first : tie.Need-mul-first Inv-loop μ-loop
-mul-first c = search needs
+μ-loop card g v w i n from to j₀ j = n - j
 
 cast-n : tie.Need-cast-n Inv-loop μ-loop
 cast-n c = search needs
@@ -36,11 +27,8 @@ cast-n c = search needs
 mul-n : tie.Need-mul-n Inv-loop μ-loop
 mul-n c = search needs
 
-mul-from : tie.Need-mul-from Inv-loop μ-loop
-mul-from c = search needs
-
-add-from : tie.Need-add-from Inv-loop μ-loop
-add-from c = search needs
+place-of-requires : tie.Need-place-of-requires Inv-loop μ-loop
+place-of-requires c κs = search needs
 
 add-to : tie.Need-add-to Inv-loop μ-loop
 add-to c = search needs
@@ -51,11 +39,8 @@ add-j c = search needs
 loop-holds : tie.Need-loop-holds Inv-loop μ-loop
 loop-holds c = (omega arith, refl)
 
-mul-at : tie.Need-mul-at Inv-loop μ-loop
-mul-at c = search needs
-
-add-at : tie.Need-add-at Inv-loop μ-loop
-add-at c = search needs
+place-of-requires-2 : tie.Need-place-of-requires-2 Inv-loop μ-loop
+place-of-requires-2 c κs = search needs
 
 add-end : tie.Need-add-end Inv-loop μ-loop
 add-end c = search needs
@@ -83,10 +68,11 @@ apart-requires c κs = search needs
 
 returns : tie.Need-returns Inv-loop μ-loop
 returns c =
-    let a = c .before .before .before .before .before .before .before .before .before .args in
-    let h = c .before .before .before .before .loop-test .taken in
-    let e = entry-test2 (a .g) (now (a .card)) _ _ (apart (tableIn (a .g) (a .v) (sec (now (a .card)))) (tableIn (a .g) (a .w) (sec (now (a .card))))) (c .before .before .before .before .before .before .before .before .before .pre .1) h (c .before .apart .ensures) in
-    every-stop _ _ [] _ _ (entries-lt _ _ _ h) e (c .if1 .taken) (c .before .before .before .before .before .loop .inv .1)
+    let z = c .before .before .before .before .before .before .before in
+    let a = z .before .before .before .args in
+    let h = c .before .before .before .before .before .loop-test .taken in
+    let e = entry-test2 (a .g) (now (a .card)) _ _ _ _ (apart (tableIn (a .g) (a .v) (sec (now (a .card)))) (tableIn (a .g) (a .w) (sec (now (a .card))))) (z .place-of .ensures) (z .before .before .before .pre .1) (c .before .before .before .before .place-of2 .ensures) h (c .before .apart .ensures) in
+    every-stop _ _ [] _ _ (entries-lt _ _ _ h) e (c .if1 .taken) (c .before .before .before .before .before .before .loop .inv .1)
 
 add-j-2 : tie.Need-add-j-2 Inv-loop μ-loop
 add-j-2 c = search needs
@@ -96,10 +82,11 @@ loop-less c = search needs
 
 loop-again : tie.Need-loop-again Inv-loop μ-loop
 loop-again c =
-    let a = c .before .before .before .before .before .before .before .before .before .args in
-    let h = c .before .before .before .before .loop-test .taken in
-    let e = entry-test2 (a .g) (now (a .card)) _ _ (apart (tableIn (a .g) (a .v) (sec (now (a .card)))) (tableIn (a .g) (a .w) (sec (now (a .card))))) (c .before .before .before .before .before .before .before .before .before .pre .1) h (c .before .apart .ensures) in
-    (omega arith, every-go _ _ [] _ _ (entries-lt _ _ _ h) e (c .if1 .left) (c .before .before .before .before .before .loop .inv .1))
+    let z = c .before .before .before .before .before .before .before in
+    let a = z .before .before .before .args in
+    let h = c .before .before .before .before .before .loop-test .taken in
+    let e = entry-test2 (a .g) (now (a .card)) _ _ _ _ (apart (tableIn (a .g) (a .v) (sec (now (a .card)))) (tableIn (a .g) (a .w) (sec (now (a .card))))) (z .place-of .ensures) (z .before .before .before .pre .1) (c .before .before .before .before .place-of2 .ensures) h (c .before .apart .ensures) in
+    (omega arith, every-go _ _ [] _ _ (entries-lt _ _ _ h) e (c .if1 .left) (c .before .before .before .before .before .before .loop .inv .1))
 
 returns-2 : tie.Need-returns-2 Inv-loop μ-loop
 returns-2 c = every-end _ _ [] _ (entries-le _ _ _ (c .loop-test .left)) (c .before .loop .inv .1)
@@ -110,18 +97,13 @@ apart-from-spec =
     (tie.spec
     Inv-loop
     μ-loop
-    cast-first
-    add-first
-    mul-first
     cast-n
     mul-n
-    mul-from
-    add-from
+    place-of-requires
     add-to
     add-j
     loop-holds
-    mul-at
-    add-at
+    place-of-requires-2
     add-end
     sub-apart
     part-apart-start

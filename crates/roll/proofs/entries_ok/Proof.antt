@@ -17,19 +17,10 @@ use Rattle.roll.proofs.entries_ok.Statement.{statement}
 use Rattle.roll.proofs.entries_ok.Tie as tie
 
 abbrev Inv-loop : tie.InvT-loop
-Inv-loop card g v bound first n j₀ j = (j ≤ n) × (every (entryOk g bound (tableIn g v (sec card))) (entriesOf g (sec card)) ≡ every (entryOk g bound (tableIn g v (sec card))) (drop j (entriesOf g (sec card))))
+Inv-loop card g v bound n j₀ j = (j ≤ n) × (every (entryOk g bound (tableIn g v (sec card))) (entriesOf g (sec card)) ≡ every (entryOk g bound (tableIn g v (sec card))) (drop j (entriesOf g (sec card))))
 
 abbrev μ-loop : tie.MeasureT-loop
-μ-loop card g v bound first n j₀ j = n - j
-
-cast-first : tie.Need-cast-first Inv-loop μ-loop
-cast-first c = search needs
-
-add-first : tie.Need-add-first Inv-loop μ-loop
-add-first c = search needs
-
-mul-first : tie.Need-mul-first Inv-loop μ-loop
-mul-first c = search needs
+μ-loop card g v bound n j₀ j = n - j
 
 cast-n : tie.Need-cast-n Inv-loop μ-loop
 cast-n c = search needs
@@ -40,11 +31,8 @@ mul-n c = search needs
 loop-holds : tie.Need-loop-holds Inv-loop μ-loop
 loop-holds c = (omega arith, refl)
 
-mul-at : tie.Need-mul-at Inv-loop μ-loop
-mul-at c = search needs
-
-add-at : tie.Need-add-at Inv-loop μ-loop
-add-at c = search needs
+place-of-requires : tie.Need-place-of-requires Inv-loop μ-loop
+place-of-requires c κs = search needs
 
 add-end : tie.Need-add-end Inv-loop μ-loop
 add-end c = search needs
@@ -64,9 +52,9 @@ entry-ok-requires c κs = search needs
 returns : tie.Need-returns Inv-loop μ-loop
 returns c =
     let a = c .before .before .before .before .before .before .before .before .args in
-    let h = c .before .before .before .loop-test .taken in
-    let e = entry-test (a .g) (now (a .card)) _ (entryOk (a .g) (a .bound) (tableIn (a .g) (a .v) (sec (now (a .card))))) h (c .before .entry-ok .ensures) in
-    every-stop _ _ [] _ _ (entries-lt _ _ _ h) e (c .if1 .taken) (c .before .before .before .before .loop .inv .1)
+    let h = c .before .before .before .before .loop-test .taken in
+    let e = entry-test (a .g) (now (a .card)) _ _ (entryOk (a .g) (a .bound) (tableIn (a .g) (a .v) (sec (now (a .card))))) (c .before .before .before .place-of .ensures) h (c .before .entry-ok .ensures) in
+    every-stop _ _ [] _ _ (entries-lt _ _ _ h) e (c .if1 .taken) (c .before .before .before .before .before .loop .inv .1)
 
 add-j : tie.Need-add-j Inv-loop μ-loop
 add-j c = search needs
@@ -77,9 +65,9 @@ loop-less c = search needs
 loop-again : tie.Need-loop-again Inv-loop μ-loop
 loop-again c =
     let a = c .before .before .before .before .before .before .before .before .args in
-    let h = c .before .before .before .loop-test .taken in
-    let e = entry-test (a .g) (now (a .card)) _ (entryOk (a .g) (a .bound) (tableIn (a .g) (a .v) (sec (now (a .card))))) h (c .before .entry-ok .ensures) in
-    (omega arith, every-go _ _ [] _ _ (entries-lt _ _ _ h) e (c .if1 .left) (c .before .before .before .before .loop .inv .1))
+    let h = c .before .before .before .before .loop-test .taken in
+    let e = entry-test (a .g) (now (a .card)) _ _ (entryOk (a .g) (a .bound) (tableIn (a .g) (a .v) (sec (now (a .card))))) (c .before .before .before .place-of .ensures) h (c .before .entry-ok .ensures) in
+    (omega arith, every-go _ _ [] _ _ (entries-lt _ _ _ h) e (c .if1 .left) (c .before .before .before .before .before .loop .inv .1))
 
 returns-2 : tie.Need-returns-2 Inv-loop μ-loop
 returns-2 c = every-end _ _ [] _ (entries-le _ _ _ (c .loop-test .left)) (c .before .loop .inv .1)
@@ -90,14 +78,10 @@ entries-ok-spec =
     (tie.spec
     Inv-loop
     μ-loop
-    cast-first
-    add-first
-    mul-first
     cast-n
     mul-n
     loop-holds
-    mul-at
-    add-at
+    place-of-requires
     add-end
     sub-entry-ok
     part-entry-ok-start

@@ -1,6 +1,6 @@
 -- Index, entries, page: the first test that fails decides. Assumes nothing.
 use borrow.Author.Needs.{needs}
-use Rattle.card.specs.ViewLaws.{page-room, view-index, view-pair, view-entries, view-page, view-runs}
+use Rattle.card.specs.ViewLaws.{view-index, view-pair, view-entries, view-page, view-runs}
 use Rattle.sound.proofs.view_ok.Statement.{statement}
 use Rattle.sound.proofs.view_ok.Tie as tie
 
@@ -37,32 +37,12 @@ entries-ok-requires c κs = search needs
 returns-2 : tie.Need-returns-2
 returns-2 c = view-entries _ _ _ _ (c .before .before .before .index-ok .ensures) (c .before .entries-ok .ensures) (c .if2 .taken)
 
-page-at-requires : tie.Need-page-at-requires
-page-at-requires c κs = search needs
-
-cast-at : tie.Need-cast-at
-cast-at c = search needs
-
-mul-at : tie.Need-mul-at
-mul-at c = search needs
-
-add-end : tie.Need-add-end
-add-end c = search needs
-
-sub-page-ok : tie.Need-sub-page-ok
-sub-page-ok c = search needs
-
-part-page-ok-start : tie.Need-part-page-ok-start
-part-page-ok-start c = search needs
-
-part-page-ok-end : tie.Need-part-page-ok-end
-part-page-ok-end c = page-room _ _ _ (c .before .before .before .before .before .before .before .before .before .pre) (view-pair _ _ _ _ (c .before .before .before .before .before .index-ok .ensures) (c .before .before .before .before .if1 .left)) (c .before .page-at .ensures)
-
-page-ok-requires : tie.Need-page-ok-requires
-page-ok-requires c κs = (c .before .before .before .before .before .before .before .before .before .before .pre, (search needs, view-runs _ _ _ _ (c .before .before .before .before .entries-ok .ensures) (c .before .before .before .if2 .left)))
+pages-ok-requires : tie.Need-pages-ok-requires
+pages-ok-requires c κs =
+    (c .before .before .before .before .before .before .before .pre, (view-pair _ _ _ _ (c .before .before .before .index-ok .ensures) (c .before .before .if1 .left), view-runs _ _ _ _ (c .before .entries-ok .ensures) (c .if2 .left)))
 
 returns-3 : tie.Need-returns-3
-returns-3 c = view-page _ _ _ _ (c .before .before .before .before .before .before .before .index-ok .ensures) (c .before .before .before .before .before .before .if1 .left) (c .before .before .before .before .before .entries-ok .ensures) (c .before .before .before .before .if2 .left) (c .before .before .before .page-at .ensures) (c .page-ok .ensures)
+returns-3 c = view-page _ _ _ _ (c .before .before .before .before .index-ok .ensures) (c .before .before .before .if1 .left) (c .before .before .entries-ok .ensures) (c .before .if2 .left) (c .pages-ok .ensures)
 
 pub view-ok-spec : {M : Type 1} → statement M
 view-ok-spec =
@@ -79,12 +59,5 @@ view-ok-spec =
     returns
     entries-ok-requires
     returns-2
-    page-at-requires
-    cast-at
-    mul-at
-    add-end
-    sub-page-ok
-    part-page-ok-start
-    part-page-ok-end
-    page-ok-requires
+    pages-ok-requires
     returns-3)

@@ -1,0 +1,26 @@
+-- `counts::dir_first` meets its contract. Assumes nothing.
+use native.Mathlib.Omega.{arith}
+use borrow.Author.Needs.{needs}
+use Rattle.counts.specs.TableLaws.{dir-is}
+use Rattle.counts.proofs.dir_first.Statement.{statement}
+use Rattle.counts.proofs.dir_first.Tie as tie
+
+add-result : tie.Need-add-result
+add-result c = search needs
+
+pairs-requires : tie.Need-pairs-requires
+pairs-requires c κs = search needs
+
+mul-result : tie.Need-mul-result
+mul-result c = search needs
+
+add-result-2 : tie.Need-add-result-2
+add-result-2 c = search needs
+
+returns : tie.Need-returns
+returns c =
+    let s = c .before .before in
+    (omega (arith, dir-is (s .args .g), c .pairs .ensures .0), omega (arith, s .pre .t, c .pairs .ensures .1))
+
+pub dir-first-spec : {M : Type 1} → statement M
+dir-first-spec = tie.close (tie.spec add-result pairs-requires mul-result add-result-2 returns)
