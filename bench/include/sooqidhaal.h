@@ -10,6 +10,13 @@
  * working image is a second buffer of the same length that need not. The
  * functions keep no pointer and allocate nothing.
  *
+ * Sizes. S is at most 65,536, so an image has at most 32 MiB; T is 1 to 512, D
+ * is 1 to 64, and with P = S / 4,096 rounded up S must exceed T + 2 + 2 * P + D.
+ * A length is a size_t: work it out as (size_t)STORE_SECTOR * s. For an s inside
+ * the limits the product fits 32 bits; for an s that comes from elsewhere it
+ * might not, and the functions compare in numbers that do not wrap. A file lies
+ * inside one page of 4,096 sectors: it has at most 2 MiB.
+ *
  * What is taken. Every call takes buffers of any length and content, any
  * 24 bytes as a session, any name and any number, and always ends. What the
  * caller answers for is C's own: each pointer is valid for its length (for the
@@ -34,7 +41,7 @@
  *    4  the session is closed
  *    5  name length or byte outside the rule (1 to 32 bytes, each 33 to 126)
  *    7  no entry for the name
- *    8  no run of sectors free in both views
+ *    8  no run of sectors inside a page that is free in both views
  *    9  change or sync in a worn session
  *   10  list: more files than lines
  *   11  sector number S or more
@@ -70,6 +77,10 @@ enum {
 #define STORE_SESSION_BYTES 24
 #define STORE_REPORT_BYTES 16
 
+/* The most sectors of a card, and of a page, which is the most of a file. */
+#define STORE_MOST_SECTORS 65536
+#define STORE_PAGE_SECTORS 4096
+
 /* Where a file's content is: its first sector (0 for a file of 0 bytes), its
  * sectors and its bytes. */
 struct store_run {
@@ -93,8 +104,9 @@ struct store_answer {
     uint32_t count;
 };
 
-/* Makes a fresh card of s sectors, t of them table and d directory: 1. A make
- * that gives 0 ends any session on the card. */
+/* Makes a fresh card of s sectors, t of them table and d directory: 1, where
+ * card_len is not 512 * s too. A make that gives 0 ends any session on the
+ * card. */
 uint32_t store_make(uint32_t s, uint32_t t, uint32_t d,
                     uint8_t *card, size_t card_len);
 
@@ -109,7 +121,8 @@ uint32_t store_mount(uint8_t *card, size_t card_len,
                      uint8_t *work, size_t work_len, uint8_t session[24]);
 
 /* Stores a whole file under a name, in the working image only:
- * 4, 2, 9, 5, 7, 8. */
+ * 4, 2, 9, 5, 7, 8. Content of any length is taken; more than 2 MiB finds no
+ * run: 8, or 7. */
 uint32_t store_put(const uint8_t session[24], uint8_t *work, size_t work_len,
                    const uint8_t *name, size_t name_len,
                    const uint8_t *content, size_t content_len);

@@ -27,6 +27,7 @@ mod hostile;
 mod image;
 mod lists;
 mod op;
+mod pages;
 mod parse;
 pub mod parts;
 mod shrink;

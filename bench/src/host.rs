@@ -8,6 +8,12 @@
 //!
 //! A session crosses as six words, least byte first: state (0 closed, 1 open,
 //! 2 open and worn), S, T, D, c, t. The closed session is 24 zero bytes.
+//!
+//! S is at most 65,536, so an image has at most 32 MiB and 512·S fits in 32
+//! bits. That holds of an S inside the limits alone: any S that a word holds is
+//! taken, and its product is compared in numbers that do not wrap. Lengths
+//! cross as `usize`. A file lies inside one page of 4,096 sectors, and has at
+//! most 2 MiB.
 
 use crate::plain::{Line, REPORT_BYTES, SESSION_BYTES};
 use std::mem::{align_of, offset_of, size_of};
@@ -94,7 +100,7 @@ mod symbols {
 // length 0, and those that are written to overlap no other. The functions
 // keep no pointer.
 
-/// Makes a fresh card of S, T and D: 1.
+/// Makes a fresh card of S, T and D: 1, where it has not 512·S bytes too.
 pub fn make(s: u32, t: u32, d: u32, card: &mut [u8]) -> u32 {
     // SAFETY: see above.
     unsafe { symbols::store_make(s, t, d, card.as_mut_ptr(), card.len()) }
@@ -116,7 +122,8 @@ pub fn mount(card: &mut [u8], work: &mut [u8], session: &mut SessionBytes) -> u3
     unsafe { symbols::store_mount(card, card_len, work, work_len, session) }
 }
 
-/// Stores a whole file under a name: 4, 2, 9, 5, 7, 8.
+/// Stores a whole file under a name: 4, 2, 9, 5, 7, 8. Content of any length is
+/// taken; more than 2 MiB finds no run.
 pub fn put(session: &SessionBytes, work: &mut [u8], name: &[u8], content: &[u8]) -> u32 {
     let work_len = work.len();
     // SAFETY: see above.

@@ -8,6 +8,7 @@ mod calls;
 mod directory;
 mod files;
 mod image;
+mod index;
 mod reading;
 mod rules;
 mod session;
@@ -16,7 +17,7 @@ mod view;
 
 pub use calls::{land, make, mount, sync, unmount};
 pub use files::{free, get, list, put, remove};
-pub use image::{set_word, word, Geometry, MOST_SECTORS, SECTOR};
+pub use image::{set_word, word, Geometry, MOST_SECTORS, PAGE_SECTORS, SECTOR};
 pub use reading::{printed, read, read_get, read_list, Report, LONGEST_INPUT, REPORT_BYTES};
 pub use session::{Session, SESSION_BYTES};
 pub use view::Line;
@@ -40,7 +41,7 @@ pub const BAD_NAME: u32 = 5;
 pub const NO_FILE: u32 = 6;
 /// Put finds no entry by its rule.
 pub const NO_ENTRY: u32 = 7;
-/// No run of sectors free in both views.
+/// No run of sectors inside a page that is free in both views.
 pub const NO_ROOM: u32 = 8;
 /// Change or sync in a worn session.
 pub const WORN: u32 = 9;

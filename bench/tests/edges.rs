@@ -1,4 +1,4 @@
-//! The largest card, the last counts, and full cards and directories.
+//! The largest cards, the last counts, and full cards and directories.
 
 mod common;
 
@@ -9,7 +9,9 @@ use common::{content, fresh_card, shown, Host};
 fn limits_of_make() {
     for (s, t, d, number) in [
         (4_096, 512, 64, 0),
-        (4_097, 512, 64, 1),
+        (4_097, 512, 64, 0),
+        (65_536, 512, 64, 0),
+        (65_537, 512, 64, 1),
         (4_096, 513, 64, 1),
         (4_096, 512, 65, 1),
         (4_096, 0, 64, 1),
@@ -29,7 +31,7 @@ fn limits_of_make() {
 }
 
 #[test]
-fn the_largest_card_is_filled_by_one_file() {
+fn the_largest_card_of_one_page_is_filled_by_one_file() {
     let mut host = Host::mount(fresh_card(4_096, 512, 64));
     assert_eq!(host.free(), Ok(3_516));
     let all = content(3_516 * 512);

@@ -1,27 +1,33 @@
 //! The cut bench finds stores that are wrong on purpose, and gives a short
 //! history that shows it.
 
+#[path = "common/paged.rs"]
+mod paged;
 #[path = "common/wrong.rs"]
 mod wrong;
 
-use bench::cutbench::parts::{run, Failure, Limit, Pair, Plan};
+use bench::cutbench::parts::{run, Failure, Limit, Pair, Plan, PARTS};
 use bench::cutbench::{fault, history, text, Op};
 use bench::store::{Plain, Proved};
 use wrong::Wrong;
 
-fn first_failure(pair: Pair, histories: u64) -> Option<Failure> {
+fn first_failure(parts: &[&str], pair: Pair, histories: u64) -> Option<Failure> {
     let plan = Plan {
-        seed: 5,
+        seed: 1,
         random: Limit::Histories(histories),
         hostile: Limit::Histories(histories),
         most: 0,
     };
-    run(pair, &plan, &|_, _| ()).1.into_iter().next()
+    run(parts, pair, &plan, &|_, _| ()).1.into_iter().next()
+}
+
+fn found(pair: Pair) -> Failure {
+    found_by(&PARTS, pair)
 }
 
 /// The failure in its shortest form, which is looked at.
-fn found(pair: Pair) -> Failure {
-    let failure = first_failure(pair, 300).expect("the fault is found");
+fn found_by(parts: &[&str], pair: Pair) -> Failure {
+    let failure = first_failure(parts, pair, 300).expect("the fault is found");
     let whole = failure.history.len();
     let small = pair.smallest(failure);
     assert!(small.history.len() <= whole);
@@ -92,6 +98,27 @@ fn comparing_finds_every_wrong_byte_and_number() {
         Wrong::ListsShort,
     ] {
         found(Pair(&wrong, &Plain));
+    }
+}
+
+/// On cards of more than one page; beside itself a store that takes a run it
+/// should not take then meets a session that does not fit.
+#[test]
+fn what_is_wrong_with_pages_is_found() {
+    for wrong in [
+        Wrong::CrossesPages,
+        Wrong::OneGroup,
+        Wrong::TakesCrossing,
+        Wrong::AnyPair,
+        Wrong::PastGroups,
+        Wrong::LaterStamps,
+    ] {
+        let small = found_by(&["pages"], Pair(&wrong, &Plain));
+        assert!(!small.what.is_empty(), "{wrong:?}");
+    }
+    for wrong in [Wrong::CrossesPages, Wrong::OneGroup] {
+        let small = found_by(&["pages"], Pair(&wrong, &wrong));
+        assert!(small.what.contains("refused"), "{}", small.what);
     }
 }
 

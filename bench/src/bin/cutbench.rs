@@ -1,7 +1,7 @@
 //! The cut bench: `cutbench [--seed N] [--seconds N | --short]`, or
 //! `cutbench --replay FILE-OR-TEXT`. Ends with 1 on any disagreement.
 
-use bench::cutbench::parts::{run, Failure, Limit, Pair, Plan};
+use bench::cutbench::parts::{run, Failure, Limit, Pair, Plan, PARTS};
 use bench::cutbench::{fault, history, table, text, total, Tally};
 use bench::store::{Plain, Proved};
 use std::env;
@@ -85,7 +85,7 @@ fn bench(plan: &Plan) -> bool {
             stderr().flush().ok();
         }
     };
-    let (rows, failures) = run(PAIR, plan, &progress);
+    let (rows, failures) = run(&PARTS, PAIR, plan, &progress);
     if shown {
         eprint!("\r{:60}\r", "");
     }

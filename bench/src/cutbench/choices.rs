@@ -3,26 +3,49 @@
 use crate::dice::Dice;
 use crate::plain::steps::Step;
 use crate::plain::SECTOR;
+use std::collections::BTreeMap;
 
-/// For each sector the values written since the latest moment, the newest
-/// last; never empty, and no value twice.
+/// The values written to a sector since the latest moment, the newest last; no
+/// value twice, and more than one.
+type Values = Vec<Box<[u8]>>;
+
+/// What each sector may hold. Most hold one value, which `card` has; the few
+/// that may hold several are kept apart, and `card` has any one of theirs.
 #[derive(Clone)]
-pub struct Choices(Vec<Vec<Box<[u8]>>>);
+pub struct Choices {
+    card: Vec<u8>,
+    unsettled: BTreeMap<usize, Values>,
+}
 
 impl Choices {
     /// A card on which everything has landed.
     pub fn settled(card: &[u8]) -> Choices {
-        Choices(card.chunks(SECTOR).map(|c| vec![c.into()]).collect())
+        Choices {
+            card: card.to_vec(),
+            unsettled: BTreeMap::new(),
+        }
+    }
+
+    /// The card, if everything has landed; otherwise one that a cut can leave.
+    pub fn card(&self) -> &[u8] {
+        &self.card
     }
 
     /// A value was written to a sector and may land from now on.
     fn written(&mut self, sector: usize, value: &[u8]) {
-        let values = &mut self.0[sector];
-        if values.last().is_some_and(|last| **last == *value) {
-            return;
+        match self.unsettled.get_mut(&sector) {
+            Some(values) => {
+                values.retain(|old| **old != *value);
+                values.push(value.into());
+            }
+            None => {
+                let only = sector_of(&self.card, sector);
+                if only != value {
+                    let values = vec![only.into(), value.into()];
+                    self.unsettled.insert(sector, values);
+                }
+            }
         }
-        values.retain(|old| **old != *value);
-        values.push(value.into());
     }
 
     /// Every sector of the working image may land from now on.
@@ -37,55 +60,73 @@ impl Choices {
         match step {
             Step::Write { sector, content } => self.written(*sector as usize, &content[..]),
             Step::Barrier => {
-                for values in &mut self.0 {
-                    values.drain(..values.len() - 1);
+                for (sector, values) in &self.unsettled {
+                    put(&mut self.card, *sector, &values[values.len() - 1]);
                 }
+                self.unsettled.clear();
             }
         }
     }
 
     /// Some card that a cut can leave.
-    pub fn pick(&self, dice: &mut Dice) -> Vec<u8> {
+    pub fn pick(&mut self, dice: &mut Dice) -> &[u8] {
         let newest = dice.below(4);
-        let mut card = Vec::with_capacity(self.0.len() * SECTOR);
-        for values in &self.0 {
+        for (sector, values) in &self.unsettled {
             let i = match newest {
                 0 if dice.below(4) > 0 => values.len() - 1,
                 1 if dice.below(4) > 0 => 0,
                 _ => dice.below(values.len()),
             };
-            card.extend_from_slice(&values[i]);
+            put(&mut self.card, *sector, &values[i]);
         }
-        card
+        &self.card
+    }
+
+    /// The power goes off: some card that a cut can leave is all there is.
+    pub fn settle(&mut self, dice: &mut Dice) {
+        self.pick(dice);
+        self.unsettled.clear();
     }
 
     /// How many sectors have more than one value.
     pub fn unsettled(&self) -> usize {
-        self.0.iter().filter(|values| values.len() > 1).count()
+        self.unsettled.len()
     }
 
     /// How many cards a cut can leave.
     pub fn cards(&self) -> u128 {
-        let counts = self.0.iter().map(|values| values.len() as u128);
+        let counts = self.unsettled.values().map(|values| values.len() as u128);
         counts.fold(1, u128::saturating_mul)
     }
 
     /// Calls `look` with every card that a cut can leave, and counts them.
-    pub fn each<E>(&self, mut look: impl FnMut(&[u8]) -> Result<(), E>) -> Result<u64, E> {
-        let mut at = vec![0; self.0.len()];
-        let mut card: Vec<u8> = self.0.iter().flat_map(|v| v[0].iter().copied()).collect();
+    pub fn each<E>(&mut self, mut look: impl FnMut(&[u8]) -> Result<(), E>) -> Result<u64, E> {
+        let list: Vec<(&usize, &Values)> = self.unsettled.iter().collect();
+        let mut at = vec![0; list.len()];
+        for (sector, values) in &list {
+            put(&mut self.card, **sector, &values[0]);
+        }
         let mut count = 0;
         loop {
-            look(&card)?;
+            look(&self.card)?;
             count += 1;
-            let Some(last) = (0..at.len()).find(|i| at[*i] + 1 < self.0[*i].len()) else {
+            let Some(last) = (0..at.len()).find(|i| at[*i] + 1 < list[*i].1.len()) else {
                 return Ok(count);
             };
             at[..last].fill(0);
             at[last] += 1;
-            for i in (0..=last).filter(|i| self.0[*i].len() > 1) {
-                card[SECTOR * i..SECTOR * (i + 1)].copy_from_slice(&self.0[i][at[i]]);
+            for i in 0..=last {
+                let (sector, values) = list[i];
+                put(&mut self.card, *sector, &values[at[i]]);
             }
         }
     }
+}
+
+fn sector_of(card: &[u8], sector: usize) -> &[u8] {
+    &card[SECTOR * sector..SECTOR * (sector + 1)]
+}
+
+fn put(card: &mut [u8], sector: usize, value: &[u8]) {
+    card[SECTOR * sector..SECTOR * (sector + 1)].copy_from_slice(value);
 }

@@ -2,7 +2,6 @@
 
 use super::choices::Choices;
 use super::files::Files;
-use super::image::Image;
 use super::op::Cuttable;
 use super::track::Track;
 use super::world::{Outcome, World};
@@ -26,13 +25,13 @@ impl World<'_> {
     /// Looks at the card as it is, with what has been landed on it, and at
     /// some other card that a cut now could leave.
     pub(super) fn try_cut(&mut self, seed: u64) -> Outcome {
-        let Some(track) = self.track.take() else {
+        let Some(mut track) = self.track.take() else {
             return Ok(());
         };
         self.tally.cuts += 1;
-        self.look(&self.card(), &[&track.shown])?;
+        self.with_card(|world, card| world.look(card, &[&track.shown]))?;
         let card = track.choices.pick(&mut Dice::new(seed));
-        self.look(&card, &[&track.shown])?;
+        self.look(card, &[&track.shown])?;
         self.track = Some(track);
         Ok(())
     }
@@ -40,13 +39,14 @@ impl World<'_> {
     /// Looks at every card that a cut now could leave, unless there are more
     /// than `most`: how many there are, or 0.
     pub(super) fn all_cuts(&mut self, most: u128) -> Outcome<u64> {
-        let Some(track) = self.track.take() else {
+        let Some(mut track) = self.track.take() else {
             return Ok(0);
         };
         let mut count = 0;
         if track.choices.cards() <= most {
             self.tally.cuts += 1;
-            let look = |card: &[u8]| self.look(card, &[&track.shown]).map(|_| ());
+            let shown = &track.shown;
+            let look = |card: &[u8]| self.look(card, &[shown]).map(|_| ());
             count = track.choices.each(look)?;
         }
         self.track = Some(track);
@@ -75,7 +75,7 @@ impl World<'_> {
             return Ok(());
         };
         let mut choices = if self.ends_session(call) {
-            Choices::settled(&self.card())
+            Choices::settled(self.sides[0].card.bytes())
         } else {
             track.choices.clone()
         };
@@ -108,8 +108,8 @@ impl World<'_> {
     pub(super) fn cut_in(&mut self, call: Cuttable, done: usize, seed: u64) -> Outcome {
         let list = self.steps_of(call).unwrap_or_default();
         if self.ends_session(call) {
-            let card = self.card();
-            self.track = self.track.take().map(|t| Track::settled(&card, t.shown));
+            let card = self.sides[0].card.bytes();
+            self.track = self.track.take().map(|t| Track::settled(card, t.shown));
         }
         self.cut_after(&list[..done.min(list.len())], seed)
     }
@@ -120,16 +120,18 @@ impl World<'_> {
         };
         self.tally.cuts += 1;
         done.iter().for_each(|step| track.choices.step(step));
-        let card = track.choices.pick(&mut Dice::new(seed));
+        track.choices.settle(&mut Dice::new(seed));
+        let card = track.choices.card();
         let allowed = track.allowed(done);
-        let place = self.look(&card, &allowed)?;
+        let place = self.look(card, &allowed)?;
         let files = allowed[place].clone();
         for side in &mut self.sides {
-            side.card = Image::of(&card);
-            side.work = Image::filled(0xEE, card.len());
+            side.card.set(card);
+            side.work.bytes_mut().fill(0xEE);
             side.session = Session::Closed.encode();
         }
-        self.track = Some(Track::settled(&card, files));
+        (track.shown, track.present) = (files.clone(), files);
+        self.track = Some(track);
         Ok(())
     }
 }

@@ -2,7 +2,7 @@
 
 use super::op::{Cuttable, Op, Which};
 use crate::dice::Dice;
-use crate::plain::{MOST_SECTORS, TOP};
+use crate::plain::{Geometry, MOST_SECTORS, PAGE_SECTORS, SECTOR, TOP};
 
 /// The names: few, so that they meet; the last ones are refused.
 const NAMES: [&[u8]; 14] = [
@@ -32,6 +32,9 @@ pub fn random(dice: &mut Dice, length: usize) -> Vec<Op> {
         last_counts(dice, t, &mut list);
     }
     list.push(Op::Mount);
+    if let Some(geometry) = Geometry::within_limits(s, t, d).filter(|g| g.pairs() > 1) {
+        fill(dice, &geometry, &mut list);
+    }
     while list.len() < length {
         some(dice, s, &mut list);
         if dice.one_in(5) {
@@ -58,12 +61,31 @@ fn geometry(dice: &mut Dice) -> (u32, u32, u32) {
         _ => (1 + dice.below(2) as u32, 1 + dice.below(2) as u32),
     };
     let f = t + 4 + d;
-    let s = match dice.below(100) {
-        0 => MOST_SECTORS,
-        1 => f + 1 + dice.below((MOST_SECTORS - f) as usize) as u32,
+    let s = match dice.below(1_000) {
+        0..=9 => PAGE_SECTORS,
+        10..=19 => f + 1 + dice.below((PAGE_SECTORS - f) as usize) as u32,
+        20..=27 => *dice.one_of(&[4_097, 4_097, 8_192, 8_193]),
+        28 => MOST_SECTORS,
         _ => f + 1 + dice.below(24) as u32,
     };
     (s, t, d)
+}
+
+/// Two files take the first two pages but for a few sectors, so that what
+/// follows lies on both sides of a page's end.
+fn fill(dice: &mut Dice, geometry: &Geometry, list: &mut Vec<Op>) {
+    let data = [
+        PAGE_SECTORS - geometry.f(),
+        (geometry.s() - PAGE_SECTORS).min(PAGE_SECTORS),
+    ];
+    for (name, sectors) in [b"d", b"e"].into_iter().zip(data) {
+        let left = dice.below(6) as u32;
+        list.push(Op::Put {
+            name: name.to_vec(),
+            bytes: SECTOR * sectors.saturating_sub(left) as usize,
+            seed: dice.roll() % 1_000_000,
+        });
+    }
 }
 
 /// A card whose crash counts or transaction counts are nearly used up.
@@ -81,7 +103,7 @@ fn last_counts(dice: &mut Dice, t: u32, list: &mut Vec<Op>) {
 fn some(dice: &mut Dice, s: u32, list: &mut Vec<Op>) {
     let seed = dice.roll() % 1_000_000;
     match dice.below(100) {
-        0..=37 => list.push(put(dice)),
+        0..=37 => list.push(put(dice, s)),
         38..=49 => list.push(Op::Remove(name(dice))),
         50..=61 => lands(dice, s, list),
         62..=75 => list.push(Op::Try(seed)),
@@ -101,8 +123,10 @@ fn some(dice: &mut Dice, s: u32, list: &mut Vec<Op>) {
     }
 }
 
-fn put(dice: &mut Dice) -> Op {
+/// Some puts on a card of more than one page are of a page, or of more.
+fn put(dice: &mut Dice, s: u32) -> Op {
     let bytes = match dice.below(8) {
+        0 if s > PAGE_SECTORS => SECTOR * PAGE_SECTORS as usize + dice.below(2),
         0 => 0,
         1 => 512 * (1 + dice.below(4)),
         2 => dice.below(12_000),
@@ -126,11 +150,17 @@ fn name(dice: &mut Dice) -> Vec<u8> {
     NAMES[dice.below(names)].to_vec()
 }
 
-/// Lands a random set of sectors; a number past the end is refused.
+/// Lands a random set of sectors, of a large card often those that have words
+/// or lie at the end of its first page; a number past the end is refused.
 fn lands(dice: &mut Dice, s: u32, list: &mut Vec<Op>) {
     for _ in 0..1 + dice.below(6) {
         let past = u32::from(dice.one_in(30)) * 3;
-        list.push(Op::Land(dice.below(s as usize) as u32 + past));
+        let sector = match dice.below(3) {
+            0 if s > PAGE_SECTORS => dice.below(48),
+            1 if s > PAGE_SECTORS => PAGE_SECTORS as usize - 8 + dice.below(16),
+            _ => dice.below(s as usize),
+        };
+        list.push(Op::Land(sector as u32 + past));
     }
 }
 

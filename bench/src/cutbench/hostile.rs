@@ -3,11 +3,11 @@
 
 use super::op::{Op, Which};
 use crate::dice::Dice;
-use crate::plain::{self, TOP};
+use crate::plain::{self, PAGE_SECTORS, SECTOR, TOP};
 use crate::stored;
 
 /// Words that sit at some bound.
-const BOUNDS: [u32; 18] = [
+const BOUNDS: [u32; 23] = [
     0,
     1,
     2,
@@ -20,7 +20,12 @@ const BOUNDS: [u32; 18] = [
     127,
     128,
     512,
+    4_095,
     4_096,
+    4_097,
+    8_192,
+    65_536,
+    65_537,
     TOP - 1,
     TOP,
     TOP + 1,
@@ -50,12 +55,17 @@ impl Cards {
 /// A history: some state, then again and again from there a few mutations and
 /// a few calls.
 pub fn random(dice: &mut Dice, cards: &Cards) -> Vec<Op> {
-    let mut list = beginning(dice, cards);
+    let paged = dice.one_in(250);
+    let mut list = if paged {
+        two_pages(dice)
+    } else {
+        beginning(dice, cards)
+    };
     list.push(Op::Save);
     for _ in 0..46 {
         list.push(Op::Back);
         for _ in 0..dice.below(4) {
-            list.push(mutation(dice));
+            list.push(mutation(dice, paged));
         }
         for _ in 0..1 + dice.below(3) {
             list.push(call(dice));
@@ -83,6 +93,28 @@ fn beginning(dice: &mut Dice, cards: &Cards) -> Vec<Op> {
     list
 }
 
+/// A card of two pages, with T = 1 and D = 1, and a session with files at both
+/// sides of the first page's end.
+fn two_pages(dice: &mut Dice) -> Vec<Op> {
+    let file = |name: u8, bytes| Op::Put {
+        name: vec![name],
+        bytes,
+        seed: 1,
+    };
+    let s = *dice.one_of(&[4_097, 4_097, 8_192]);
+    let left = dice.below(4);
+    vec![
+        Op::Fresh(s, 1, 1),
+        Op::Mount,
+        file(b'b', SECTOR * (PAGE_SECTORS as usize - 8 - left)),
+        file(b'a', 600),
+        file(b'c', 512),
+        Op::Sync,
+        put(dice),
+        put(dice),
+    ]
+}
+
 fn word(dice: &mut Dice) -> u32 {
     match dice.below(4) {
         0 => dice.roll() as u32,
@@ -95,20 +127,26 @@ fn which(dice: &mut Dice) -> Which {
     *dice.one_of(&[Which::Card, Which::Work, Which::Work])
 }
 
-/// Most mutations go to the first six sectors, where the words are; some
-/// words of an entry and of the index are met on purpose.
-fn mutation(dice: &mut Dice) -> Op {
+/// Most mutations go to the first six sectors, where the words are, and eight
+/// of a card of two pages; some words of an entry and of the index are met on
+/// purpose.
+fn mutation(dice: &mut Dice, paged: bool) -> Op {
     let image = which(dice);
+    let (groups, directory) = if paged { (2, 3_584) } else { (1, 2_560) };
     match dice.below(16) {
         0..=3 => Op::Session(dice.below(6), word(dice)),
         4 => Op::Length(image, length(dice)),
         5..=6 => Op::Poke(image, 4 * dice.below(5), word(dice)),
-        7..=8 => Op::Poke(image, 1_024 + 4 * dice.below(5), word(dice)),
+        7..=8 => Op::Poke(image, 1_024 + 4 * dice.below(4 * groups + 1), word(dice)),
         9..=12 => {
-            let entry = 2_560 + 128 * dice.below(4);
+            let entry = directory + 128 * dice.below(4);
             Op::Poke(image, entry + 4 * dice.below(20), word(dice))
         }
-        13 => Op::Poke(image, 1_536 + dice.below(1_024), dice.roll() as u32),
+        13 => Op::Poke(
+            image,
+            1_536 + dice.below(1_024 * groups),
+            dice.roll() as u32,
+        ),
         14 => Op::Poke(image, dice.below(6_000), word(dice)),
         _ => Op::Poke(image, 512 + 4 * dice.below(6), word(dice)),
     }

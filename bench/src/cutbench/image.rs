@@ -8,6 +8,8 @@ const GUARD: u8 = 0x5C;
 /// Guard bytes before an image; odd, so that an image is at no even place.
 const BEFORE: usize = 61;
 const AFTER: usize = 67;
+/// Images are copied in parts of so many bytes.
+const PART: usize = 1 << 14;
 
 /// Bytes with guards on both sides, which no call may touch.
 #[derive(Clone)]
@@ -36,9 +38,27 @@ impl Image {
         &mut self.0[BEFORE..end]
     }
 
-    /// Takes over the bytes of another image.
+    /// Takes over these bytes.
+    pub fn set(&mut self, bytes: &[u8]) {
+        if bytes.len() == self.bytes().len() {
+            self.bytes_mut().copy_from_slice(bytes);
+        } else {
+            *self = Image::of(bytes);
+        }
+    }
+
+    /// Takes over the bytes of another image. Most parts of a large one are
+    /// the same already, and are only looked at.
     pub fn copy_from(&mut self, other: &Image) {
-        self.0.clone_from(&other.0);
+        if self.0.len() != other.0.len() {
+            self.0.clone_from(&other.0);
+            return;
+        }
+        for (part, from) in self.0.chunks_mut(PART).zip(other.0.chunks(PART)) {
+            if part != from {
+                part.copy_from_slice(from);
+            }
+        }
     }
 
     fn guarded(&self) -> bool {

@@ -77,7 +77,7 @@ impl World<'_> {
     /// Lists the files that the card shows by both stores.
     pub(super) fn list_card(&mut self, length: usize) -> Outcome {
         let length = length.min(LONGEST);
-        let (number, lines) = self.read_list(&self.card(), length)?;
+        let (number, lines) = self.with_card(|world, card| world.read_list(card, length))?;
         match &self.track {
             Some(track) => must_be(&track.shown, number, length, &lines),
             None => Ok(()),

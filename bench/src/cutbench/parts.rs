@@ -3,7 +3,7 @@
 use super::op::Op;
 use super::shrink::{fault, shrink};
 use super::summary::{Row, Tally};
-use super::{edges, exhaustive, histories, hostile};
+use super::{edges, exhaustive, histories, hostile, pages};
 use crate::dice::Dice;
 use crate::store::Store;
 use std::sync::atomic::{AtomicBool, AtomicU64, Ordering};
@@ -63,28 +63,38 @@ fn same_kind(one: &str, other: &str) -> bool {
     words(one) == words(other)
 }
 
-/// Runs the parts in order, and none after one with a disagreement;
+/// The parts in order.
+pub const PARTS: [&str; 5] = ["random", "exhaustive", "edges", "pages", "hostile"];
+
+/// Runs some of the parts in order, and none after one with a disagreement;
 /// `progress` is told of each part while it runs.
 pub fn run(
+    names: &[&str],
     pair: Pair,
     plan: &Plan,
     progress: &(dyn Fn(&str, Tally) + Sync),
 ) -> (Vec<Row>, Vec<Failure>) {
     let cards = hostile::Cards::small();
-    let (fixed, scripts) = (exhaustive::all(plan.most), edges::all());
+    let (fixed, scripts, paged) = (exhaustive::all(plan.most), edges::all(), pages::all());
     let dice = |part, i| Dice::new(Dice::seed_of(plan.seed, part, i));
-    let random = |i| Some(histories::random(&mut dice(1, i), 66));
-    let damaged = |i| Some(hostile::random(&mut dice(2, i), &cards));
     let every = Limit::Histories(u64::MAX);
-    let parts: [(&'static str, Limit, &Source); 4] = [
-        ("random", plan.random, &random),
-        ("exhaustive", every, &|i| fixed.get(i as usize).cloned()),
-        ("edges", every, &|i| scripts.get(i as usize).cloned()),
-        ("hostile", plan.hostile, &damaged),
+    let parts: [(&'static str, Limit, &Source); 5] = [
+        (PARTS[0], plan.random, &|i| {
+            Some(histories::random(&mut dice(1, i), 66))
+        }),
+        (PARTS[1], every, &|i| fixed.get(i as usize).cloned()),
+        (PARTS[2], every, &|i| scripts.get(i as usize).cloned()),
+        (PARTS[3], every, &|i| paged.get(i as usize).cloned()),
+        (PARTS[4], plan.hostile, &|i| {
+            Some(hostile::random(&mut dice(2, i), &cards))
+        }),
     ];
     let mut rows = Vec::new();
     let mut failures = Vec::new();
     for (part, limit, source) in parts {
+        if !names.contains(&part) {
+            continue;
+        }
         let (row, failed) = run_part(part, pair, limit, source, &|tally| progress(part, tally));
         rows.push(row);
         failures = failed;

@@ -49,14 +49,15 @@ impl World<'_> {
         if number != DONE && !(was_open && self.track.is_some()) {
             return Ok(());
         }
-        let card = self.card();
-        let files = match self.track.take() {
-            Some(track) => track.shown,
-            None => files_of(&card).map_err(|n| format!("a mounted card is refused {n}"))?,
-        };
-        self.look(&card, &[&files])?;
-        self.track = Some(Track::settled(&card, files));
-        Ok(())
+        self.with_card(|world, card| {
+            let files = match world.track.take() {
+                Some(track) => track.shown,
+                None => files_of(card).map_err(|n| format!("a mounted card is refused {n}"))?,
+            };
+            world.look(card, &[&files])?;
+            world.track = Some(Track::settled(card, files));
+            Ok(())
+        })
     }
 
     pub(super) fn put(&mut self, name: &[u8], content: &[u8]) -> Outcome {
@@ -102,14 +103,16 @@ impl World<'_> {
             store.sync(&mut side.session, card, work)
         })?;
         match self.track.take() {
-            Some(track) if number == DONE => {
-                let card = self.card();
-                self.look(&card, &[&track.present])?;
-                self.track = Some(Track::settled(&card, track.present));
+            Some(track) if number == DONE => self.with_card(|world, card| {
+                world.look(card, &[&track.present])?;
+                world.track = Some(Track::settled(card, track.present));
+                Ok(())
+            }),
+            track => {
+                self.track = track;
+                Ok(())
             }
-            track => self.track = track,
         }
-        Ok(())
     }
 
     /// By the plain version, as remove is.

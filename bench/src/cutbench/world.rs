@@ -6,9 +6,10 @@ use super::op::{Op, Which};
 use super::summary::{Call, Tally};
 use super::track::Track;
 use crate::dice::Dice;
-use crate::plain::{self, word, Session, SECTOR};
+use crate::plain::{self, word, Geometry, Session, MOST_SECTORS, SECTOR};
 use crate::store::Store;
 use crate::stored::{self, StoredCard};
+use std::mem;
 use std::sync::OnceLock;
 
 /// What a line of a history gives: nothing, or what is wrong.
@@ -45,12 +46,13 @@ impl<'a> World<'a> {
     pub fn run(&mut self, op: &Op) -> Outcome {
         match op {
             Op::Fresh(s, t, d) => {
-                let length = SECTOR * (*s).min(plain::MOST_SECTORS + 1) as usize;
-                self.begin(Side::rubbish(length));
+                let length = SECTOR * (*s).min(MOST_SECTORS + 1) as usize;
+                self.sides = [Side::rubbish(length), Side::rubbish(length)];
+                self.track = None;
                 self.make(*s, *t, *d)
             }
             Op::Make(s, t, d) => self.make(*s, *t, *d),
-            Op::Read => self.read(&self.card()).map(|_| ()),
+            Op::Read => self.with_card(|world, card| world.read(card)).map(|_| ()),
             Op::Mount => self.mount(),
             Op::Put { name, bytes, seed } => self.put(name, &Dice::new(*seed).bytes(*bytes)),
             Op::Sync => self.sync(),
@@ -72,38 +74,38 @@ impl<'a> World<'a> {
         }
     }
 
-    /// Lines that change images and session behind the stores' backs.
+    /// Lines that change images and session behind the stores' backs, on both
+    /// sides alike: from then on nothing is known of them.
     fn meddle(&mut self, op: &Op) {
-        let mut side = self.sides[0].clone();
-        match op {
-            Op::Stored(name) => {
-                let card = stored_cards().iter().find(|card| card.name == name);
-                let bytes = card.map_or(&[][..], |card| &card.bytes);
-                side = Side::rubbish(bytes.len());
-                side.card = Image::of(bytes);
-            }
-            Op::Noise(which, bytes, seed) => {
-                *side.image_mut(*which) = Image::of(&Dice::new(*seed).bytes(*bytes));
-            }
-            Op::Poke(which, at, word) => poke(side.image_mut(*which).bytes_mut(), *at, *word),
-            Op::Length(which, bytes) => resize(&mut side, *which, *bytes),
-            Op::Session(i, word) => poke(&mut side.session, 4 * i, *word),
-            Op::Save => self.saved = Some(side.clone()),
-            _ => side = self.saved.clone().unwrap_or(side),
+        if *op == Op::Save {
+            self.saved = Some(self.sides[0].clone());
         }
-        self.begin(side);
-    }
-
-    /// Both sides begin from one state, of which nothing is known.
-    fn begin(&mut self, side: Side) {
-        for own in &mut self.sides {
-            own.copy_from(&side);
+        for side in &mut self.sides {
+            match op {
+                Op::Stored(name) => {
+                    let card = stored_cards().iter().find(|card| card.name == name);
+                    let bytes = card.map_or(&[][..], |card| &card.bytes);
+                    *side = Side::rubbish(bytes.len());
+                    side.card.set(bytes);
+                }
+                Op::Noise(which, bytes, seed) => {
+                    side.image_mut(*which).set(&Dice::new(*seed).bytes(*bytes));
+                }
+                Op::Poke(which, at, word) => poke(side.image_mut(*which).bytes_mut(), *at, *word),
+                Op::Length(which, bytes) => resize(side, *which, *bytes),
+                Op::Session(i, word) => poke(&mut side.session, 4 * i, *word),
+                _ => self.saved.iter().for_each(|saved| side.copy_from(saved)),
+            }
         }
         self.track = None;
     }
 
-    pub(super) fn card(&self) -> Vec<u8> {
-        self.sides[0].card.bytes().to_vec()
+    /// Does something with the card, which is not there meanwhile.
+    pub(super) fn with_card<T>(&mut self, f: impl FnOnce(&mut Self, &[u8]) -> T) -> T {
+        let card = mem::replace(&mut self.sides[0].card, Image::of(&[]));
+        let answer = f(self, card.bytes());
+        self.sides[0].card = card;
+        answer
     }
 
     /// The plain version's view of the session.
@@ -170,9 +172,10 @@ impl<'a> World<'a> {
             return Err(refused(refusal));
         }
         let files = with_contents(card, &lines).map_err(refused)?;
-        let f = word(card, 0, 2) + 4 + word(card, 0, 3);
+        let [s, t, d] = [1, 2, 3].map(|i| word(card, 0, i));
+        let f = Geometry::within_limits(s, t, d).map_or(0, |geometry| geometry.f());
         let sum = f + clear + sectors(&files);
-        if number != 0 || count as usize != files.len() || sum != word(card, 0, 1) {
+        if number != 0 || count as usize != files.len() || sum != s {
             return Err(format!("read counts {count} files and {clear} clear bits"));
         }
         let place = allowed.iter().position(|list| **list == files);
@@ -194,6 +197,6 @@ fn poke(bytes: &mut [u8], at: usize, word: u32) {
 fn resize(side: &mut Side, which: Which, length: usize) {
     let image = side.image_mut(which);
     let mut bytes = image.bytes().to_vec();
-    bytes.resize(length.min(4 << 20), 0);
-    *image = Image::of(&bytes);
+    bytes.resize(length.min(SECTOR * (MOST_SECTORS as usize + 2)), 0);
+    image.set(&bytes);
 }

@@ -1,14 +1,32 @@
 //! The cards that are measured, and the calls on them.
 
 use crate::host::SessionBytes;
-use crate::plain::{self, Line, Session, SECTOR};
+use crate::plain::{self, Line, Session, MOST_SECTORS, PAGE_SECTORS, SECTOR};
 use crate::store::Store;
 
 /// S, T and D.
 pub type Geometry = (u32, u32, u32);
 
+/// A small card, the largest of one page, and the largest of all, with T = 8
+/// and D = 8: each has sixteen times the sectors of the one before.
+pub const SMALL: Geometry = (256, 8, 8);
+pub const PAGE: Geometry = (PAGE_SECTORS, 8, 8);
+pub const LARGEST: Geometry = (MOST_SECTORS, 8, 8);
+
 /// The measured cards.
-pub const CARDS: [Geometry; 4] = [(10, 1, 1), (256, 8, 8), (4_096, 8, 8), (4_096, 512, 64)];
+pub const CARDS: [Geometry; 6] = [
+    (10, 1, 1),
+    SMALL,
+    PAGE,
+    (PAGE_SECTORS, 512, 64),
+    LARGEST,
+    (MOST_SECTORS, 512, 64),
+];
+
+/// The first data sector of a card.
+fn first_data((s, t, d): Geometry) -> u32 {
+    plain::Geometry::within_limits(s, t, d).map_or(0, |geometry| geometry.f())
+}
 
 /// The measured calls. A put has a number of sectors.
 #[derive(Clone, Copy, Debug, PartialEq, Eq)]
@@ -23,6 +41,9 @@ pub enum Call {
     Fit,
     List,
     ReadList,
+    /// Reading's list with no line lent, which a card with files refuses with
+    /// 10 after the soundness test; no row of its own.
+    Sound,
 }
 
 /// All of them, in the order of the tables.
@@ -53,6 +74,7 @@ impl Call {
             Call::Fit => "land, no such sector".into(),
             Call::List => "list".into(),
             Call::ReadList => "reading's list".into(),
+            Call::Sound => "reading's list, no line".into(),
         }
     }
 }
@@ -88,7 +110,7 @@ impl Bed {
             lines: vec![Line::default(); entries],
         };
         if full {
-            bed.fill(entries, s - (t + 4 + d));
+            bed.fill(entries, s - first_data(geometry));
         }
         bed.mount_for(call);
         bed
@@ -115,7 +137,10 @@ impl Bed {
 
     /// Session calls start after a mount; sync and land after a put as well.
     fn mount_for(&mut self, call: Call) {
-        if matches!(call, Call::Make | Call::Read | Call::Mount | Call::ReadList) {
+        if matches!(
+            call,
+            Call::Make | Call::Read | Call::Mount | Call::ReadList | Call::Sound
+        ) {
             return;
         }
         let (_, session) = plain::mount(&mut self.card, &mut self.work);
@@ -142,13 +167,17 @@ impl Bed {
             Call::Mount => store.mount(&mut self.card, &mut self.work, &mut self.session),
             Call::Put(_) => store.put(&self.session, &mut self.work, &self.name, content),
             Call::Sync => store.sync(&mut self.session, &mut self.card, &mut self.work),
-            Call::Land => store.land(&self.session, &mut self.card, &self.work, t + 4 + d),
+            Call::Land => {
+                let sector = first_data(self.geometry);
+                store.land(&self.session, &mut self.card, &self.work, sector)
+            }
             Call::Fit => store.land(&self.session, &mut self.card, &self.work, s),
             Call::List => {
                 let lines = &mut self.lines;
                 store.list(&self.session, &self.work, lines).number
             }
             Call::ReadList => store.read_list(&self.card, &mut self.lines).number,
+            Call::Sound => store.read_list(&self.card, &mut []).number,
         }
     }
 }

@@ -1,6 +1,6 @@
 //! The measured rows and the tables made of them.
 
-use super::bed::{Bed, Call, Geometry, CALLS, CARDS};
+use super::bed::{Bed, Call, Geometry, CALLS, CARDS, LARGEST, PAGE, SMALL};
 use super::timing::{clock, content_bytes, measure, Measured};
 use crate::stack;
 use crate::store::{Plain, Proved, Store};
@@ -51,7 +51,15 @@ pub fn tables() -> String {
             rows.extend(calls.map(|call| Row::take(geometry, full, *call)));
         }
     }
-    [machine(), calls(&rows), syncs(&rows), growth(&rows)].join("\n")
+    [
+        machine(),
+        calls(&rows),
+        copies(&rows, Call::Sync),
+        copies(&rows, Call::Mount),
+        growth(&rows, SMALL, PAGE),
+        growth(&rows, PAGE, LARGEST),
+    ]
+    .join("\n")
 }
 
 fn machine() -> String {
@@ -112,14 +120,28 @@ fn marked(ratio: f64, aim: f64) -> String {
     }
 }
 
-fn syncs(rows: &[Row]) -> String {
-    let mut text = String::from(
-        "Sync beside one plain copy of the bytes that it moves. The fit test alone is a\n\
-         land of a sector that is not there, timed in the same run.\n\n\
-         | S, T, D | directory | sync | copy | fit | sync / copy | (sync - fit) / copy |\n\
+/// Sync or mount beside one copy of the bytes that it moves.
+fn copies(rows: &[Row], call: Call) -> String {
+    let (title, name, test) = match call {
+        Call::Sync => (
+            "Sync beside one plain copy of the bytes that it moves. The fit test alone is a\n\
+             land of a sector that is not there, timed in the same run.",
+            "sync",
+            "fit",
+        ),
+        _ => (
+            "Mount beside one plain copy of the card. The soundness test alone is reading's\n\
+             list with no line lent, timed in the same run.",
+            "mount",
+            "sound",
+        ),
+    };
+    let mut text = format!(
+        "{title}\n\n\
+         | S, T, D | directory | {name} | copy | {test} | {name} / copy | ({name} - {test}) / copy |\n\
          |---|---|--:|--:|--:|--:|--:|\n",
     );
-    for row in rows.iter().filter(|row| row.call == Call::Sync) {
+    for row in rows.iter().filter(|row| row.call == call) {
         let m = &row.measured;
         let _ = writeln!(
             text,
@@ -127,23 +149,25 @@ fn syncs(rows: &[Row]) -> String {
             row.head(),
             m.proved,
             m.copy,
-            m.fit,
+            m.test,
             m.proved / m.copy,
-            marked((m.proved - m.fit) / m.copy, 1.3)
+            marked((m.proved - m.test) / m.copy, 1.3)
         );
     }
     text
 }
 
-fn growth(rows: &[Row]) -> String {
-    let mut text = String::from(
-        "Growth from S = 256 to S = 4,096, 16 times the sectors, with T = 8 and D = 8.\n\n\
+fn growth(rows: &[Row], from: Geometry, to: Geometry) -> String {
+    let mut text = format!(
+        "Growth from S = {} to S = {}, 16 times the sectors, with T = 8 and D = 8.\n\n\
          | directory | call | proved | plain |\n\
          |---|---|--:|--:|\n",
+        grouped(from.0),
+        grouped(to.0)
     );
-    for small in rows.iter().filter(|row| row.geometry == CARDS[1]) {
+    for small in rows.iter().filter(|row| row.geometry == from) {
         let same = |row: &&Row| row.full == small.full && row.call == small.call;
-        let mut larger = rows.iter().filter(|row| row.geometry == CARDS[2]);
+        let mut larger = rows.iter().filter(|row| row.geometry == to);
         let Some(large) = larger.find(same) else {
             continue;
         };
@@ -158,4 +182,12 @@ fn growth(rows: &[Row]) -> String {
         );
     }
     text
+}
+
+/// A number with a comma before its last three digits, if it has more.
+fn grouped(number: u32) -> String {
+    match number / 1_000 {
+        0 => number.to_string(),
+        thousands => format!("{thousands},{:03}", number % 1_000),
+    }
 }

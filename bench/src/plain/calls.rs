@@ -1,8 +1,10 @@
 //! Make, mount, land, sync and unmount: the calls that write to the card.
 
+use super::directory::Stamp;
 use super::image::{
-    bytes_of, has_sectors, set_bit, set_word, table_word, word, Geometry, MOST_SECTORS,
+    bytes_of, has_sectors, set_bit, set_word, table_word, word, Geometry, PAGE_SECTORS,
 };
+use super::index::Group;
 use super::session::{Open, Session};
 use super::steps::{first_writes, of_mount, of_sync, of_unmount};
 use super::{number, BAD_GEOMETRY, DONE, NO_SECTOR, TOP};
@@ -12,16 +14,19 @@ pub fn make(s: u32, t: u32, d: u32, card: &mut [u8]) -> u32 {
     let Some(geometry) = Geometry::within_limits(s, t, d).filter(|_| has_sectors(card, s)) else {
         return BAD_GEOMETRY;
     };
-    let (first, second) = geometry.apages();
     card.fill(0);
     for (i, value) in [0, s, t, d].into_iter().enumerate() {
         set_word(card, 0, i, value);
     }
-    set_word(card, geometry.index(), 2, first);
-    set_word(card, geometry.index(), 3, second);
-    for sector in (0..geometry.f()).chain(s..MOST_SECTORS) {
-        set_bit(card, first, sector, true);
-        set_bit(card, second, sector, true);
+    let stamp = Stamp { cc: 0, txc: 0 };
+    for p in 0..geometry.pairs() {
+        let (a, b) = geometry.pair(p);
+        Group { stamp, a, b }.store(card, &geometry, p);
+    }
+    for sector in (0..geometry.f()).chain(s..PAGE_SECTORS * geometry.pairs()) {
+        let (a, b) = geometry.pair(sector / PAGE_SECTORS);
+        set_bit(card, a, sector, true);
+        set_bit(card, b, sector, true);
     }
     DONE
 }

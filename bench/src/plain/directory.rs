@@ -1,6 +1,6 @@
 //! Stamps, versions and entries, as the directory stores them.
 
-use super::image::{set_word, word, Geometry, SECTOR};
+use super::image::{set_word, word, Geometry, PAGE_SECTORS, SECTOR};
 use std::ops::Range;
 
 /// Words of an entry.
@@ -51,6 +51,12 @@ impl Version {
     pub fn inside_data(&self, geometry: &Geometry) -> bool {
         let end = u64::from(self.start) + u64::from(self.sectors);
         self.sectors == 0 || (self.start >= geometry.f() && end <= u64::from(geometry.s()))
+    }
+
+    /// Whether the sectors lie in one page; no sectors lie nowhere.
+    pub fn inside_page(&self) -> bool {
+        let end = u64::from(self.start % PAGE_SECTORS) + u64::from(self.sectors);
+        self.sectors == 0 || end <= u64::from(PAGE_SECTORS)
     }
 
     /// The sectors of a present version inside the data; none if absent.

@@ -1,7 +1,8 @@
 //! Put, remove, get, list and free: the calls on the working image.
 
 use super::directory::{Stamp, StoredName, Version, ABSENT};
-use super::image::{bytes_of, set_bit, set_word, SECTOR};
+use super::image::{bytes_of, set_bit, PAGE_SECTORS, SECTOR};
+use super::index::Group;
 use super::session::{Open, Session};
 use super::view::{Line, View};
 use super::{number, BAD_NAME, NO_ENTRY, NO_FILE, NO_ROOM, SHORT_OUTPUT, WORN};
@@ -103,18 +104,27 @@ fn entry_for(present: &View, cut: &View, name: &StoredName) -> Option<usize> {
     of_name.or_else(|| entries.find(|i| !in_either(i)))
 }
 
-/// The lowest run of data sectors free in both views for so many bytes;
-/// 0 bytes take none, from 0.
+/// The lowest run of data sectors free in both views and inside one page, for
+/// so many bytes; 0 bytes take none, from 0.
 fn room_for(present: &View, cut: &View, bytes: usize) -> Option<Range<u32>> {
-    let (f, s) = (present.geometry.f(), present.geometry.s());
     let sectors = u32::try_from(bytes.div_ceil(SECTOR)).ok()?;
     if sectors == 0 {
         return Some(0..0);
     }
-    let last = s.checked_sub(sectors)?;
     let free = |sector: u32| !present.in_use(sector) && !cut.in_use(sector);
-    let start = (f..=last).find(|start| (*start..*start + sectors).all(free))?;
-    Some(start..start + sectors)
+    let mut run = 0..0;
+    for sector in present.geometry.f()..present.geometry.s() {
+        if run.end != sector || sector % PAGE_SECTORS == 0 {
+            run = sector..sector;
+        }
+        if free(sector) {
+            run.end += 1;
+        }
+        if run.end - run.start == sectors {
+            return Some(run);
+        }
+    }
+    None
 }
 
 /// Writes content to a run and fills the last sector with zeros.
@@ -126,35 +136,37 @@ fn write_content(work: &mut [u8], run: &Range<u32>, content: &[u8]) {
     }
 }
 
-/// Sets the bits of the sectors taken and clears those given back, in the
-/// apage of this transaction. Where no bit changes nothing is touched.
+/// Sets the bits of the sectors taken and clears those given back. Each of the
+/// two runs lies in one page.
 fn change_bitmap(open: &Open, work: &mut [u8], taken: Range<u32>, given_back: Range<u32>) {
-    if taken.is_empty() && given_back.is_empty() {
+    change_run(open, work, taken, true);
+    change_run(open, work, given_back, false);
+}
+
+/// Sets or clears the bits of a run inside one page, in the apage of this
+/// transaction. A run of no sectors touches nothing.
+fn change_run(open: &Open, work: &mut [u8], run: Range<u32>, on: bool) {
+    if run.is_empty() {
         return;
     }
-    let page = apage_to_change(open, work);
-    for sector in taken {
-        set_bit(work, page, sector, true);
-    }
-    for sector in given_back {
-        set_bit(work, page, sector, false);
+    let page = apage_to_change(open, work, run.start / PAGE_SECTORS);
+    for sector in run {
+        set_bit(work, page, sector, on);
     }
 }
 
-/// Stamps the index (c, t), with A a copy of the apage shown before, unless
+/// Stamps group `p` (c, t), with A a copy of the apage shown before, unless
 /// that was done earlier in this transaction. Gives A.
-fn apage_to_change(open: &Open, work: &mut [u8]) -> u32 {
-    let index = open.geometry.index();
+fn apage_to_change(open: &Open, work: &mut [u8], p: u32) -> u32 {
     let view = open.present(work);
-    let (stamp, (a, b)) = (view.index_stamp(), view.pages());
+    let Group { stamp, a, b } = view.group(p);
     if stamp == now(open) {
         return a;
     }
     let (a, b) = if view.alive(stamp) { (b, a) } else { (a, b) };
     work.copy_within(bytes_of(b), bytes_of(a).start);
-    for (i, value) in [open.c, open.tx, a, b].into_iter().enumerate() {
-        set_word(work, index, i, value);
-    }
+    let stamp = now(open);
+    Group { stamp, a, b }.store(work, &open.geometry, p);
     a
 }
 

@@ -7,8 +7,10 @@ use std::ops::Range;
 pub const SECTOR: usize = 512;
 /// Words of a sector.
 pub const SECTOR_WORDS: usize = 128;
-/// The most sectors a card can have, which is also the bits of an apage.
-pub const MOST_SECTORS: u32 = 4_096;
+/// The most sectors a card can have.
+pub const MOST_SECTORS: u32 = 65_536;
+/// The bits of an apage, which are the sectors that it covers.
+pub const PAGE_SECTORS: u32 = 4_096;
 
 /// Word `i` counted from the start of `sector`. The image must hold it.
 #[inline]
@@ -55,7 +57,8 @@ impl Geometry {
     /// The geometry S, T, D, if it is inside the limits.
     pub fn within_limits(s: u32, t: u32, d: u32) -> Option<Geometry> {
         let ranges_hold = s <= MOST_SECTORS && (1..=512).contains(&t) && (1..=64).contains(&d);
-        (ranges_hold && s > t + 4 + d).then_some(Geometry { s, t, d })
+        let geometry = Geometry { s, t, d };
+        (ranges_hold && s > geometry.f()).then_some(geometry)
     }
 
     /// The geometry stored in an image, if it is inside the limits and the
@@ -89,9 +92,14 @@ impl Geometry {
         128 * self.t
     }
 
+    /// P, the pairs of apages: S/4,096 rounded up.
+    pub fn pairs(&self) -> u32 {
+        self.s.div_ceil(PAGE_SECTORS)
+    }
+
     /// F, the first data sector.
     pub fn f(&self) -> u32 {
-        self.t + 4 + self.d
+        self.directory() + self.d
     }
 
     /// The sector of the apage index.
@@ -99,14 +107,15 @@ impl Geometry {
         self.t + 1
     }
 
-    /// The sectors of the two apages.
-    pub fn apages(&self) -> (u32, u32) {
-        (self.t + 2, self.t + 3)
+    /// The sectors of the two apages of pair `p`, which cover the sectors
+    /// 4,096p to 4,096p + 4,095.
+    pub fn pair(&self, p: u32) -> (u32, u32) {
+        (self.t + 2 + 2 * p, self.t + 3 + 2 * p)
     }
 
     /// The first sector of the directory.
     pub fn directory(&self) -> u32 {
-        self.t + 4
+        self.t + 2 + 2 * self.pairs()
     }
 
     /// How many entries the directory has.
@@ -126,21 +135,27 @@ pub fn table_word(image: &[u8], i: u32) -> u32 {
     word(image, 1, i as usize)
 }
 
-/// Whether the bit of `sector` is set in the apage at `page`.
+/// Whether the bit of `sector` is set in the apage at `page`, which covers it.
 #[inline]
 pub fn bit(image: &[u8], page: u32, sector: u32) -> bool {
-    let byte = image[page as usize * SECTOR + sector as usize / 8];
+    let byte = image[byte_of(page, sector)];
     byte & (1 << (sector % 8)) != 0
 }
 
-/// Sets or clears the bit of `sector` in the apage at `page`.
+/// Sets or clears the bit of `sector` in the apage at `page`, which covers it.
 #[inline]
 pub fn set_bit(image: &mut [u8], page: u32, sector: u32, on: bool) {
-    let byte = &mut image[page as usize * SECTOR + sector as usize / 8];
+    let byte = &mut image[byte_of(page, sector)];
     let mask = 1 << (sector % 8);
     if on {
         *byte |= mask;
     } else {
         *byte &= !mask;
     }
+}
+
+/// The place of the byte that has the bit of `sector` in the apage at `page`.
+#[inline]
+fn byte_of(page: u32, sector: u32) -> usize {
+    page as usize * SECTOR + (sector % PAGE_SECTORS) as usize / 8
 }

@@ -1,8 +1,10 @@
 //! A view: what an image shows when one table word is taken as given.
 
 use super::directory::{last_words_zero, Entry, Stamp, StoredName, Version};
-use super::image::{bit, table_word, word, Geometry, MOST_SECTORS, SECTOR_WORDS};
+use super::image::{bit, table_word, Geometry, PAGE_SECTORS};
+use super::index::{words_past_groups_zero, Group};
 use super::TOP;
+use std::ops::Range;
 
 /// One line of a list: a file's name, start, sectors and bytes, laid out as it
 /// crosses to C.
@@ -65,40 +67,34 @@ impl View<'_> {
         }
     }
 
-    /// The index stamp.
-    pub fn index_stamp(&self) -> Stamp {
-        Stamp {
-            cc: word(self.image, self.geometry.index(), 0),
-            txc: word(self.image, self.geometry.index(), 1),
-        }
+    /// Group `p` of the index, as stored.
+    pub fn group(&self, p: u32) -> Group {
+        Group::load(self.image, &self.geometry, p)
     }
 
-    /// A and B of the index, as stored.
-    pub fn pages(&self) -> (u32, u32) {
-        let index = self.geometry.index();
-        (word(self.image, index, 2), word(self.image, index, 3))
-    }
-
-    /// The sector of the shown apage. A and B must pass.
-    fn shown_page(&self) -> u32 {
-        let (a, b) = self.pages();
-        if self.alive(self.index_stamp()) {
+    /// The sector of the apage of pair `p` that is shown. A and B must pass.
+    fn shown_page(&self, p: u32) -> u32 {
+        let Group { stamp, a, b } = self.group(p);
+        if self.alive(stamp) {
             a
         } else {
             b
         }
     }
 
-    /// Whether the shown apage has the sector's bit set. A and B must pass.
+    /// Whether the sector's bit is set in the shown apage that covers it. A and
+    /// B must pass.
     pub fn in_use(&self, sector: u32) -> bool {
-        bit(self.image, self.shown_page(), sector)
+        bit(self.image, self.shown_page(sector / PAGE_SECTORS), sector)
     }
 
-    /// The clear bits of the shown apage. A and B must pass.
+    /// The clear bits of the shown apages. A and B must pass.
     pub fn clear_bits(&self) -> u32 {
-        let page = self.shown_page();
-        let clear = (0..MOST_SECTORS).filter(|b| !bit(self.image, page, *b));
-        clear.count() as u32
+        let clear = |p| {
+            let page = self.shown_page(p);
+            covered(p).filter(|b| !bit(self.image, page, *b)).count() as u32
+        };
+        (0..self.geometry.pairs()).map(clear).sum()
     }
 
     /// The lines of the shown files, in entry order.
@@ -126,10 +122,11 @@ impl View<'_> {
             .find(|i| self.shown(*i).present() && self.entry(*i).name == *name)
     }
 
-    /// Every stamp: the index's and each entry's.
+    /// Every stamp: each group's and each entry's.
     pub fn stamps(&self) -> Vec<Stamp> {
+        let groups = (0..self.geometry.pairs()).map(|p| self.group(p).stamp);
         let entries = (0..self.geometry.entries()).map(|i| self.entry(i).stamp);
-        std::iter::once(self.index_stamp()).chain(entries).collect()
+        groups.chain(entries).collect()
     }
 
     /// Whether every dead stamp has a crash count below `c`.
@@ -154,10 +151,9 @@ impl View<'_> {
     }
 
     fn index_passes(&self) -> bool {
-        let (first, second) = self.geometry.apages();
-        let pages = self.pages();
-        (pages == (first, second) || pages == (second, first))
-            && (4..SECTOR_WORDS).all(|i| word(self.image, self.geometry.index(), i) == 0)
+        let g = &self.geometry;
+        (0..g.pairs()).all(|p| self.group(p).names_pair(g, p))
+            && words_past_groups_zero(self.image, g)
     }
 
     fn entry_passes(&self, i: usize) -> bool {
@@ -165,6 +161,7 @@ impl View<'_> {
         last_words_zero(self.image, &self.geometry, i)
             && version.well_formed()
             && version.inside_data(&self.geometry)
+            && version.inside_page()
             && (!version.present() || self.entry(i).name.good())
     }
 
@@ -172,7 +169,8 @@ impl View<'_> {
     /// set, and no sector is in two files. The entries must pass.
     fn bitmap_passes(&self) -> bool {
         let data = self.geometry.f()..self.geometry.s();
-        let mut expected: Vec<bool> = (0..MOST_SECTORS).map(|b| !data.contains(&b)).collect();
+        let all = 0..PAGE_SECTORS * self.geometry.pairs();
+        let mut expected: Vec<bool> = all.map(|b| !data.contains(&b)).collect();
         for i in 0..self.geometry.entries() {
             for sector in self.shown(i).run() {
                 if std::mem::replace(&mut expected[sector as usize], true) {
@@ -180,7 +178,14 @@ impl View<'_> {
                 }
             }
         }
-        let page = self.shown_page();
-        (0..MOST_SECTORS).all(|b| bit(self.image, page, b) == expected[b as usize])
+        (0..self.geometry.pairs()).all(|p| {
+            let page = self.shown_page(p);
+            covered(p).all(|b| bit(self.image, page, b) == expected[b as usize])
+        })
     }
+}
+
+/// The sectors that pair `p` covers.
+fn covered(p: u32) -> Range<u32> {
+    PAGE_SECTORS * p..PAGE_SECTORS * (p + 1)
 }

@@ -21,7 +21,8 @@ pub struct Forge {
 }
 
 impl Forge {
-    /// A fresh card of S, T, D, inside the limits or not.
+    /// A fresh card of S, T, D with one pair of apages, inside the limits or
+    /// not: no input of the reading program has more.
     pub fn fresh(s: u32, t: u32, d: u32) -> Forge {
         let card = vec![0; s as usize * SECTOR];
         let f = t + 4 + d;

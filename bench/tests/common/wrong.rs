@@ -1,9 +1,12 @@
 //! Stores that are wrong on purpose. Most look right until a cut.
 
+use crate::paged;
 use bench::host::{Answer, ReportBytes, SessionBytes};
 use bench::plain::steps::Step;
-use bench::plain::{self, set_word, word, Line, Session, SECTOR};
+use bench::plain::{self, set_word, word, Geometry, Line, Session, PAGE_SECTORS, SECTOR};
 use bench::store::{Plain, Steps, Store};
+use std::borrow::Cow;
+use std::ops::Range;
 
 /// What is wrong with a store; all else is the plain version's.
 #[derive(Clone, Copy, Debug, PartialEq, Eq)]
@@ -28,6 +31,18 @@ pub enum Wrong {
     ListsPast,
     /// A list with one file more than lines leaves it out and says 0.
     ListsShort,
+    /// Put takes a run across a page's end.
+    CrossesPages,
+    /// A put changes one group where it should change two.
+    OneGroup,
+    /// Reading and lists take a run across a page's end.
+    TakesCrossing,
+    /// Reading and lists take A and B of another pair.
+    AnyPair,
+    /// Reading and lists do not judge the words after the last group.
+    PastGroups,
+    /// Reading and lists do not ask the range of a later group's stamp.
+    LaterStamps,
 }
 
 impl Store for Wrong {
@@ -36,7 +51,7 @@ impl Store for Wrong {
     }
 
     fn read(&self, card: &[u8], out: &mut ReportBytes) -> u32 {
-        let number = Plain.read(card, out);
+        let number = Plain.read(&self.judged(card), out);
         if *self == Wrong::MakesUpFree && number == 0 {
             out[12] = out[12].wrapping_add(1);
         }
@@ -54,6 +69,8 @@ impl Store for Wrong {
         match self {
             Wrong::Reuses => put_reusing(session, work, name, content),
             Wrong::InPlace => put_in_place(session, work, name, content),
+            Wrong::CrossesPages => put_crossing(session, work, name, content),
+            Wrong::OneGroup => put_in_one_group(session, work, name, content),
             Wrong::MarksRefusals => {
                 let number = Plain.put(session, work, name, content);
                 if number != 0 && !work.is_empty() {
@@ -80,11 +97,13 @@ impl Store for Wrong {
     }
 
     fn read_list(&self, card: &[u8], lines: &mut [Line]) -> Answer {
-        self.wrong_list(lines, |lines| Plain.read_list(card, lines))
+        self.wrong_list(lines, |lines| Plain.read_list(&self.judged(card), lines))
     }
 
     fn list(&self, session: &SessionBytes, work: &[u8], lines: &mut [Line]) -> Answer {
-        self.wrong_list(lines, |lines| Plain.list(session, work, lines))
+        self.wrong_list(lines, |lines| {
+            Plain.list(session, &self.judged(work), lines)
+        })
     }
 
     fn sync_steps(&self, session: &SessionBytes, card: &[u8], work: &[u8]) -> Steps {
@@ -99,6 +118,18 @@ impl Store for Wrong {
 }
 
 impl Wrong {
+    /// An image in which that is right which the store does not judge.
+    fn judged<'a>(&self, image: &'a [u8]) -> Cow<'a, [u8]> {
+        let mended = match self {
+            Wrong::TakesCrossing => paged::without_crossing(image),
+            Wrong::AnyPair => paged::with_own_pairs(image),
+            Wrong::PastGroups => paged::with_zeros_past_groups(image),
+            Wrong::LaterStamps => paged::with_good_later_stamps(image),
+            _ => None,
+        };
+        mended.map_or(Cow::Borrowed(image), Cow::Owned)
+    }
+
     /// A list, wrong for two of the stores.
     fn wrong_list(&self, lines: &mut [Line], list: impl Fn(&mut [Line]) -> Answer) -> Answer {
         let mut answer = list(lines);
@@ -145,45 +176,105 @@ fn put_in_place(session: &SessionBytes, work: &mut [u8], name: &[u8], content: &
 /// A put that takes the lowest run free in the present view alone: done where
 /// the rule says and then moved.
 fn put_reusing(session: &SessionBytes, work: &mut [u8], name: &[u8], content: &[u8]) -> u32 {
-    let (s, t, d) = (
-        word(session, 0, 1),
-        word(session, 0, 2),
-        word(session, 0, 3),
-    );
     let before = lines(session, work);
-    let number = Plain.put(session, work, name, content);
+    let free = |at: u32| {
+        let mut runs = before
+            .iter()
+            .map(|line| line.start..line.start + line.sectors);
+        !runs.any(|run| run.contains(&at))
+    };
     let sectors = content.len().div_ceil(SECTOR) as u32;
-    if number != 0 || sectors == 0 {
+    let inside = |at: u32| at % PAGE_SECTORS + sectors <= PAGE_SECTORS;
+    let place = lowest(session, sectors, |at, run| inside(at) && run.all(free));
+    put_at(session, work, name, content, place)
+}
+
+/// A put that takes the lowest run free in both views, whatever page's end lies
+/// in it.
+fn put_crossing(session: &SessionBytes, work: &mut [u8], name: &[u8], content: &[u8]) -> u32 {
+    let sectors = content.len().div_ceil(SECTOR) as u32;
+    let place = match geometry(session) {
+        Some(g) if work.len() == SECTOR * g.s() as usize => {
+            let free = |at: u32| paged::free_in_both(session, work, &g, at);
+            lowest(session, sectors, |_, run| run.all(free))
+        }
+        _ => None,
+    };
+    put_at(session, work, name, content, place)
+}
+
+/// The geometry that a session speaks of.
+fn geometry(session: &SessionBytes) -> Option<Geometry> {
+    let [s, t, d] = [1, 2, 3].map(|i| word(session, 0, i));
+    Geometry::within_limits(s, t, d)
+}
+
+/// The lowest start of so many data sectors that is good.
+fn lowest(
+    session: &SessionBytes,
+    sectors: u32,
+    good: impl Fn(u32, &mut Range<u32>) -> bool,
+) -> Option<u32> {
+    let g = geometry(session)?;
+    let last = g.s().checked_sub(sectors)?;
+    (g.f()..=last).find(|at| good(*at, &mut (*at..at + sectors)))
+}
+
+/// A put that is done where the rule says and then moved to another place.
+fn put_at(
+    session: &SessionBytes,
+    work: &mut [u8],
+    name: &[u8],
+    content: &[u8],
+    place: Option<u32>,
+) -> u32 {
+    let number = Plain.put(session, work, name, content);
+    if number != 0 || content.is_empty() {
         return number;
     }
-    let taken = |at: u32| {
-        before
-            .iter()
-            .any(|l| l.start <= at && at < l.start + l.sectors)
-    };
-    let place = (t + 4 + d..=s - sectors).find(|at| (*at..at + sectors).all(|i| !taken(i)));
     let after = lines(session, work);
     let put = after.iter().find(|line| line.used_name() == name);
-    if let (Some(to), Some(line)) = (place, put) {
-        move_file(work, t, line, to);
+    if let (Some(to), Some(line), Some(g)) = (place, put, geometry(session)) {
+        move_file(session, work, &g, line, to);
     }
     0
 }
 
 /// Moves a file that was just put: content, bits and entry.
-fn move_file(work: &mut [u8], t: u32, line: &Line, to: u32) {
+fn move_file(session: &SessionBytes, work: &mut [u8], g: &Geometry, line: &Line, to: u32) {
     let from = SECTOR * line.start as usize;
     let length = SECTOR * line.sectors as usize;
     work.copy_within(from..from + length, SECTOR * to as usize);
-    let page = SECTOR * word(work, t + 1, 2) as usize;
-    let run = |start: u32| (start..start + line.sectors).map(|i| i as usize);
-    run(line.start).for_each(|i| work[page + i / 8] &= !(1 << (i % 8)));
-    run(to).for_each(|i| work[page + i / 8] |= 1 << (i % 8));
-    let entry = (0..256).find(|i| {
-        let at = SECTOR * (t as usize + 4) + 128 * i + 12;
-        work[at..at + 32] == line.name && word(work, t + 4, 32 * i + 12) == line.start
+    let run = |start: u32| start..start + line.sectors;
+    paged::change_bits(session, work, g, run(line.start), false);
+    paged::change_bits(session, work, g, run(to), true);
+    let entry = (0..g.entries()).find(|i| {
+        let at = SECTOR * g.directory() as usize + 128 * i + 12;
+        work[at..at + 32] == line.name && word(work, g.directory(), 32 * i + 12) == line.start
     });
     if let Some(i) = entry {
-        set_word(work, t + 4, 32 * i + 12, to);
+        set_word(work, g.directory(), 32 * i + 12, to);
     }
+}
+
+/// A put that changes the group of the new run alone: where the sectors given
+/// back lie in another page, their bits are cleared in the apage that is shown.
+fn put_in_one_group(session: &SessionBytes, work: &mut [u8], name: &[u8], content: &[u8]) -> u32 {
+    let before = work.to_vec();
+    let number = Plain.put(session, work, name, content);
+    let file_in = |image: &[u8]| {
+        let list = lines(session, image);
+        list.into_iter().find(|line| line.used_name() == name)
+    };
+    let files = (file_in(&before), file_in(work), geometry(session));
+    let (Some(old), Some(new), Some(g)) = files else {
+        return number;
+    };
+    let (from, to) = (old.start / PAGE_SECTORS, new.start / PAGE_SECTORS);
+    if number == 0 && old.sectors > 0 && new.sectors > 0 && from != to {
+        paged::bring_back(work, &before, &g, from);
+        let run = old.start..old.start + old.sectors;
+        paged::clear_in_place(session, work, &g, run);
+    }
+    number
 }
