@@ -23,7 +23,7 @@ use Rattle.apages.specs.PassLaws.{shown-range}
 use Rattle.apages.specs.MapLaws.{map-set}
 use Rattle.apages.specs.Remapped.{Paired, Remapped, remapped-then, paired-wide}
 use Rattle.apages.specs.FrameLaws.{bits-length, bits-other, index-now, group-here, group-there, bits-page}
-use Rattle.apages.specs.IndexViews.{IdxSame, idx-refl, IndexSame, index-refl, before-shown, hidden, between, now-page, index-step}
+use Rattle.apages.specs.IndexViews.{IdxSame, idx-refl, IndexSame, index-refl, before-shown, hidden, between, back-stamp, now-page, index-step}
 
 module _ (g : Geo) (L : Limits g) (tab : List ℕ) (own : Stamp) (cN : own .cc .0 < gN g) (tM : own .txc .0 ≤ maxTx)
     (hc : own .cc .0 < length tab) (hw : getD tab (own .cc .0) 0 + 1 ≡ own .txc .0) where
@@ -133,6 +133,7 @@ module _ (g : Geo) (L : Limits g) (tab : List ℕ) (own : Stamp) (cN : own .cc .
             stamps = λ q l. ⊎-elim (λ u. rw u (P .stamps q l)) (λ u. rw u (λ e. omega arith)) (index .groups q l .stamp);
           };
           index = index;
+          stamped = λ q l w. rw (w .1, here) (back-stamp g p small tab own hc hw x (P .stamps p small) (P .pair p small) L cN tM);
           cut = λ q l. page-other (shownPage tab (groupOf ix q)) (low q tab l) (cut-at q l (ℕ-discrete q p));
           other = λ i o z. run-other i o (λ e. z (omega (arith, span .0), omega (arith, span .1, L .dirIs)));
           pairs = λ q l o.
@@ -152,7 +153,7 @@ module _ (g : Geo) (L : Limits g) (tab : List ℕ) (own : Stamp) (cN : own .cc .
   pub run-changed : (a n v : ℕ) (img : List ℕ) → Paired g own img → a % 4096 + n ≤ 4096 → (0 < n → a < 4096 * gP g) → Remapped g tab own (λ m. setRun m a n v) (λ q. (0 < n) × (q ≡ a / 4096)) img (changeRun g now own a n v img)
   unfolding changeRun setRun
   run-changed a zero v img P fits small =
-      record { paired = P; index = index-refl g tab own _; cut = λ q l. refl; other = λ i o z. refl; pairs = λ q l o. record { group = refl; first = refl; second = refl }; map = refl }
+      record { paired = P; index = index-refl g tab own _; stamped = λ q l w. absurd (omega (arith, w .0)); cut = λ q l. refl; other = λ i o z. refl; pairs = λ q l o. record { group = refl; first = refl; second = refl }; map = refl }
   run-changed a (suc n) v img P fits small = unfold changeRun setRun in run-some a n v img P fits (let s : a < 4096 * gP g = small (omega arith) in omega arith)
 
   -- "Changing the bitmap": k sectors from a on set, then m from b on cleared

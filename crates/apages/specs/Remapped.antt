@@ -2,7 +2,7 @@
 use mathlib.Core.Path.{_≡_, ap, _∙_}
 use mathlib.Core.Bool.{true}
 use mathlib.Core.List.{List}
-use mathlib.Core.Logic.{_≢_, _⊎_, inl, inr}
+use mathlib.Core.Logic.{_≢_, _⊎_, inl, inr, ⊎-elim}
 use Prim.Native.Nat.{ℕ, _+_, _*_, _≤_, _<_}
 use native.Mathlib.Omega.{arith}
 use lib.ListN.{length, set}
@@ -35,6 +35,8 @@ pub record PairSame (g : Geo) (img img′ : List ℕ) (q : ℕ) : Type 0 where
 pub record Remapped (g : Geo) (tab : List ℕ) (own : Stamp) (f : List ℕ → List ℕ) (on : ℕ → Type 0) (img img′ : List ℕ) : Type 0 where
   pub paired : Paired g own img′
   pub index : IndexSame g tab own (indexIn g (sec img)) (indexIn g (sec img′))
+  -- "and the stamp becomes (c, t)": of the pairs in which bits change
+  pub stamped : (q : ℕ) → q < gP g → on q → stampOf (groupOf (indexIn g (sec img′)) q) ≡ own
   -- the pages that the cut view shows stay
   pub cut : (p : ℕ) → p < gP g → sec img′ (shownPage tab (groupOf (indexIn g (sec img)) p)) ≡ sec img (shownPage tab (groupOf (indexIn g (sec img)) p))
   -- and so does every sector but the index and the pages
@@ -50,6 +52,7 @@ remapped-then g tab own {f} {h} {on} {on′} {x} {y} {z} A B =
     record {
       paired = B .paired;
       index = index-trans g tab own (A .index) (B .index);
+      stamped = λ q l w. ⊎-elim (λ x. ⊎-elim (λ e. e ∙ A .stamped q l x) (λ e. e) (B .index .groups q l .stamp)) (B .stamped q l) w;
       cut = λ p l. let e : shownPage tab (groupOf (indexIn g (sec y)) p) ≡ shownPage tab (groupOf (indexIn g (sec x)) p) = A .index .groups p l .page in (rw e at (B .cut p l)) ∙ A .cut p l;
       other = λ i a b. B .other i a b ∙ A .other i a b;
       pairs = λ q l o.

@@ -10,6 +10,7 @@ use Rattle.sectors.specs.Sectors.{Cells, sec}
 use Rattle.counts.specs.declared.Geo.{Geo}
 use Rattle.counts.specs.Geometry.{gP, gF, gDir}
 use Rattle.counts.specs.GeoLaws.{Limits}
+use Rattle.counts.specs.Stamps.{stampOf}
 use Rattle.entries.specs.declared.Version.{Version}
 use Rattle.directory.specs.Directory.{sectorEntries, entriesOf, spotOf, setEntry}
 use Rattle.directory.specs.SpotLaws.{entry-length, entry-other, entry-here, spot-here, dir-set}
@@ -103,6 +104,10 @@ module _ (s : Opened) (j a k : ℕ) (v : Version) (work n d : List ℕ) (k₀ : 
   -- the index, at a cut read as before
   pub index-same : IndexSame g (tcOf s work) (ownOf s) (indexAt s work) (indexIn g (sec now))
   index-same = rw index-two at (remapped .index)
+
+  -- a pair with a changing bit has the session's stamp
+  pub stamped-now : (q : ℕ) → q < gP g → ((0 < k) × (q ≡ a / 4096)) ⊎ ((0 < m) × (q ≡ b / 4096)) → stampOf (groupOf (indexIn g (sec now)) q) ≡ ownOf s
+  stamped-now = remapped .stamped
 
   -- the map of the present view has the change, that of the cut view none
   pub map-now : pageIn g (tpOf s work) (sec now) ≡ setRun (setRun (pageIn g (tpOf s work) (sec work)) a k 1) b m 0

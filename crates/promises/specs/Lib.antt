@@ -33,6 +33,7 @@ pub mod FitHistory
 pub mod Steady
 pub mod FitKept
 pub mod Places
+pub mod PairLeaves
 pub mod Leaves
 pub mod LeavesSync
 pub mod LeavesUnmount

@@ -1,0 +1,158 @@
+-- "Changing the bitmap", in a pair of pages in which put or remove changes a bit: the stamp, which page is A and which is B, and the page at B. (`pairs` of Untouched
+-- says that every other pair stays to the byte, and its fields on bits say what the page at A holds.) Assumes nothing.
+use mathlib.Core.Path.{_≡_, refl, sym, _∙_}
+use mathlib.Core.Bool.{true}
+use mathlib.Core.List.{List, []}
+use mathlib.Core.Logic.{_⊎_, ⊎-elim, _≢_}
+use Prim.Native.Nat.{ℕ, _/_, _<_}
+use native.Mathlib.Omega.{arith}
+use borrow.Author.Tests.{le-leb, lt-leb}
+use lib.ListN.{length, getD}
+use Rattle.words.specs.Bytes.{wordAt}
+use Rattle.sectors.specs.Sectors.{sec}
+use Rattle.counts.specs.declared.Geo.{Geo}
+use Rattle.counts.specs.Geometry.{gP}
+use Rattle.counts.specs.Stamps.{stampOf, alive, showing}
+use Rattle.counts.specs.StampLaws.{now-new, cut-old}
+use Rattle.entries.specs.declared.Version.{Version}
+use Rattle.entries.specs.declared.Version.the-variants.{Absent, Present}
+use Rattle.entries.specs.Entries.{sectorsFor}
+use Rattle.apages.specs.Index.{groupOf, indexIn, pairOk, shownPage}
+use Rattle.apages.specs.PassLaws.{Pair, pair-values}
+use Rattle.apages.specs.IndexViews.{IdxSame}
+use Rattle.card.specs.Files.{runAt}
+use Rattle.card.specs.Plan.{doIt}
+use Rattle.card.specs.Means.{Alive}
+use Rattle.session.specs.declared.Opened.{Opened}
+use Rattle.session.specs.Views.{ownStamp, presentTable, cutTable}
+use Rattle.session.specs.FitLaws.{present-live}
+use Rattle.store.specs.Edit.{putPlan, putRun, putWork, editWork, removePlan, removeWork}
+use Rattle.promises.specs.Ready.{ownOf, tcOf, tpOf, oldRun, hc, hw, paired, Ready}
+use Rattle.promises.specs.Change.{index-same, stamped-now, page-kept}
+use Rattle.promises.specs.Calls.{put-ready, remove-ready}
+use Rattle.promises.specs.BitsNow.{earlierRun}
+
+-- ---- the statement
+
+-- group q of an image's index, its A and its B
+abbrev pub group : Opened → List ℕ → ℕ → List ℕ
+group s img q = groupOf (indexIn (s .geo) (sec img)) q
+
+abbrev pub A : List ℕ → ℕ
+A x = wordAt x 8
+
+abbrev pub B : List ℕ → ℕ
+B x = wordAt x 12
+
+-- a bit of page q changes: the run of k sectors from a on lies in it, or the earlier sectors do
+abbrev pub Changes : Opened → List ℕ → ℕ → ℕ → ℕ → ℕ → Type 0
+Changes s work j a k q = ((0 < k) × (q ≡ a / 4096)) ⊎ ((0 < earlierRun s work j .sectors) × (q ≡ earlierRun s work j .start .0 / 4096))
+
+pub record PairLeaves (s : Opened) (work after : List ℕ) (q : ℕ) : Type 0 where
+  -- "and the stamp becomes (c, t)"
+  pub stamp : stampOf (group s after q) ≡ ownStamp s
+  -- "If the index stamp is not (c, t): when alive, A and B trade places in the index"
+  pub mine : stampOf (group s work q) ≡ ownStamp s → (A (group s after q) ≡ A (group s work q)) × (B (group s after q) ≡ B (group s work q))
+  pub trade : stampOf (group s work q) ≢ ownStamp s → Alive (cutTable s (sec work)) (stampOf (group s work q))
+      → (A (group s after q) ≡ B (group s work q)) × (B (group s after q) ≡ A (group s work q))
+  pub stay : ¬ Alive (cutTable s (sec work)) (stampOf (group s work q)) → (A (group s after q) ≡ A (group s work q)) × (B (group s after q) ≡ B (group s work q))
+  -- "Bits change in A": the present view shows A, and the page at B stays
+  pub shows : shownPage (presentTable s (sec work)) (group s after q) ≡ A (group s after q)
+  pub kept : sec after (B (group s after q)) ≡ sec work (B (group s after q))
+
+abbrev pub PutPairs : Type 0
+PutPairs = (s : Opened) (work n d : List ℕ) (j a : ℕ) → putPlan s work n d ≡ doIt j a
+    → (q : ℕ) → q < gP (s .geo) → Changes s work j a (sectorsFor (length d)) q → PairLeaves s work (putWork s j a work n d) q
+
+abbrev pub RemovePairs : Type 0
+RemovePairs = (s : Opened) (work n : List ℕ) (j a : ℕ) → removePlan s work n ≡ doIt j a
+    → (q : ℕ) → q < gP (s .geo) → Changes s work j 0 0 q → PairLeaves s work (removeWork s j work n) q
+
+-- ---- proved
+
+-- two orders of one pair
+both-same : (g : Geo) (q a b a′ b′ : ℕ) → Pair g q a b → Pair g q a′ b′ → b′ ≡ b → a′ ≡ a
+both-same g q a b a′ b′ u w e =
+    ⊎-elim (λ x. ⊎-elim (λ y. omega (arith, x .0, y .0)) (λ y. absurd (omega (arith, x .1, y .1))) w)
+    (λ x. ⊎-elim (λ y. absurd (omega (arith, x .1, y .1))) (λ y. omega (arith, x .0, y .0)) w) u
+
+both-other : (g : Geo) (q a b a′ b′ : ℕ) → Pair g q a b → Pair g q a′ b′ → b′ ≡ a → a′ ≡ b
+both-other g q a b a′ b′ u w e =
+    ⊎-elim (λ x. ⊎-elim (λ y. absurd (omega (arith, x .0, y .1))) (λ y. omega (arith, x .1, y .0)) w)
+    (λ x. ⊎-elim (λ y. omega (arith, x .1, y .0)) (λ y. absurd (omega (arith, x .0, y .1))) w) u
+
+-- the page that a view shows
+shown-live : (tab x : List ℕ) → Alive tab (stampOf x) → shownPage tab x ≡ A x
+unfolding shownPage showing alive
+shown-live tab x h = rw (le-leb (stampOf x .txc .0) (getD tab (stampOf x .cc .0) 0) h)
+
+shown-dead : (tab x : List ℕ) → ¬ Alive tab (stampOf x) → shownPage tab x ≡ B x
+unfolding shownPage showing alive
+shown-dead tab x h = rw (lt-leb (stampOf x .txc .0) (getD tab (stampOf x .cc .0) 0) (omega (arith, h)))
+
+module _ (s : Opened) (j a k : ℕ) (v : Version) (work n d : List ℕ) (R : Ready s j a k v work n d (sec work)) (q : ℕ) (l : q < gP (s .geo)) where
+  abbrev after : List ℕ
+  after = editWork s j a k v work n d
+
+  abbrev x : List ℕ
+  x = group s work q
+
+  abbrev y : List ℕ
+  y = group s after q
+
+  same : IdxSame (s .geo) q (tcOf s work) (ownOf s) x y
+  same = index-same s j a k v work n d (sec work) R .groups q l
+
+  pair-x : pairOk (s .geo) q (A x) (B x) ≡ true
+  pair-x = paired s work (R .fit) (R .live) .pair q l
+
+  px : Pair (s .geo) q (A x) (B x)
+  px = pair-values (s .geo) q (A x) (B x) pair-x
+
+  py : Pair (s .geo) q (A y) (B y)
+  py = pair-values (s .geo) q (A y) (B y) (same .pair ∙ pair-x)
+
+  -- a group with the session's stamp: the cut view shows B, the present view A
+  own-cut : (z : List ℕ) → stampOf z ≡ ownOf s → shownPage (tcOf s work) z ≡ B z
+  unfolding shownPage
+  own-cut z e = rw e (cut-old (tcOf s work) (ownOf s) (hc s work (R .fit) (R .live)) (hw s work (R .fit) (R .live)) (A z) (B z))
+
+  own-now : (z : List ℕ) → stampOf z ≡ ownOf s → shownPage (tpOf s work) z ≡ A z
+  unfolding shownPage
+  own-now z e = rw e (now-new (tcOf s work) (ownOf s) (hc s work (R .fit) (R .live)) (hw s work (R .fit) (R .live)) (A z) (B z))
+
+  -- B is the page that the cut view showed
+  back : stampOf y ≡ ownOf s → B y ≡ shownPage (tcOf s work) x
+  back e = sym (own-cut y e) ∙ same .page
+
+  unmoved : B y ≡ B x → (A y ≡ A x) × (B y ≡ B x)
+  unmoved e = (both-same (s .geo) q (A x) (B x) (A y) (B y) px py e, e)
+
+  pair-leaves : stampOf y ≡ ownOf s → PairLeaves s work after q
+  unfolding ownStamp cutTable
+  pair-leaves e =
+      record {
+        stamp = e;
+        mine = λ o. unmoved (back e ∙ own-cut x o);
+        trade = λ o h. let b : B y ≡ A x = back e ∙ shown-live (tcOf s work) x h in (both-other (s .geo) q (A x) (B x) (A y) (B y) px py b, b);
+        stay = λ h. unmoved (back e ∙ shown-dead (tcOf s work) x h);
+        shows = rw (present-live s (sec work) (R .live)) (own-now y e);
+        kept = rw (back e) (page-kept s j a k v work n d (sec work) R q l);
+      }
+
+  -- the earlier sectors are those of the present view
+  changes-now : Changes s work j a k q → ((0 < k) × (q ≡ a / 4096)) ⊎ ((0 < oldRun s j work .sectors) × (q ≡ oldRun s j work .start .0 / 4096))
+  unfolding runAt
+  changes-now c = rw (present-live s (sec work) (R .live)) at c
+
+  pub edit-pairs : Changes s work j a k q → PairLeaves s work after q
+  edit-pairs c = pair-leaves (stamped-now s j a k v work n d (sec work) R q l (changes-now c))
+
+pub put-pairs : PutPairs
+unfolding putWork
+put-pairs s work n d j a h q l c =
+    edit-pairs s j a (sectorsFor (length d)) (Present (putRun a d)) work n d (put-ready s work (sec work) refl n d j a h) q l c
+
+pub remove-pairs : RemovePairs
+unfolding removeWork
+remove-pairs s work n j a h q l c = edit-pairs s j 0 0 Absent work n [] (remove-ready s work (sec work) refl n j a h) q l c
