@@ -62,7 +62,7 @@ unfolding bitsOf
 bits-over [] y = refl
 bits-over (c ∷ x) y = rw (bits-over x y) (bitsN-over 8 c (bitsOf x) (bitsOf y))
 
-clearIn-over : (x y : List ℕ) → clearIn (x ++ y) ≡ clearIn x + clearIn y
+pub clearIn-over : (x y : List ℕ) → clearIn (x ++ y) ≡ clearIn x + clearIn y
 unfolding clearIn
 clearIn-over [] y = omega arith
 clearIn-over (b ∷ x) y = omega (arith, clearIn-over x y)

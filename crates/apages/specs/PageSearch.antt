@@ -28,7 +28,7 @@ unfoldable pub further : ℕ → Found → Found
 further d (At i) = At (d + i)
 further d Nowhere = Nowhere
 
-merge-over : (a b c d : List ℕ) → length a ≡ length b → merge (a ++ c) (b ++ d) ≡ merge a b ++ merge c d
+pub merge-over : (a b c d : List ℕ) → length a ≡ length b → merge (a ++ c) (b ++ d) ≡ merge a b ++ merge c d
 unfolding merge
 merge-over [] [] c d h = refl
 merge-over [] (y ∷ b) c d h = absurd (omega arith)

@@ -2,16 +2,17 @@
 use mathlib.Core.List.{List}
 use Prim.Native.Nat.{ℕ}
 use Rattle.sectors.specs.Sectors.{sec}
-use Rattle.apages.specs.Bits.{clearBits}
-use Rattle.card.specs.declared.Answer.{Answer}
+use Rattle.apages.specs.Free.{freeIn, waitingIn}
 use Rattle.card.specs.declared.Line.{Line}
 use Rattle.card.specs.declared.Lined.{Lined}
-use Rattle.card.specs.Plan.{guard, ended, doIt, refused, done, Got, Listed}
+use Rattle.card.specs.Plan.{guard, ended, doIt, refused, Got, Listed}
 use Rattle.card.specs.Files.{getPlan, getEnd, listPlan, listEnd, noLine, lineEnd}
+use Rattle.session.specs.declared.Opened.{Opened}
 use Rattle.session.specs.declared.Session.{Session}
 use Rattle.session.specs.declared.Session.the-variants.{Closed, Open}
-use Rattle.session.specs.Views.{presentTable, presentPage, presentFiles}
+use Rattle.session.specs.Views.{presentTable, presentPage, cutPage, presentFiles}
 use Rattle.session.specs.Fits.{fits}
+use Rattle.store.specs.declared.Room.{Room}
 
 unfoldable pub get : Session → List ℕ → List ℕ → List ℕ → Got
 get Closed work n out = record { answer = refused 4; out = out }
@@ -30,7 +31,19 @@ unfoldable pub line : Session → List ℕ → ℕ → Lined
 line Closed work i = record { answer = refused 4; line = noLine }
 line (Open s) work i = lineEnd (presentFiles s (sec work)) i (guard 2 (fits s work) (doIt 0 0))
 
--- "Free is the count of clear bits in the present bitmap"
-unfoldable pub free : Session → List ℕ → Answer
-free Closed work = refused 4
-free (Open s) work = ended (guard 2 (fits s work) (doIt 0 0)) refused (λ j a. done (clearBits (presentPage s (sec work))))
+-- what free answers with a refusal: "a zero count", both figures
+unfoldable pub noFigures : ℕ → Room
+noFigures k = record { number = k; free = 0; waiting = 0 }
+
+-- "Free is to mean clear in both views; a second figure gives the sectors the next sync releases": set in the cut view, clear in the present one
+unfoldable pub figures : Opened → List ℕ → Room
+figures s work =
+    record {
+      number = 0;
+      free = freeIn (presentPage s (sec work)) (cutPage s (sec work));
+      waiting = waitingIn (presentPage s (sec work)) (cutPage s (sec work));
+    }
+
+unfoldable pub free : Session → List ℕ → Room
+free Closed work = noFigures 4
+free (Open s) work = ended (guard 2 (fits s work) (doIt 0 0)) noFigures (λ j a. figures s work)

@@ -8,9 +8,9 @@ use lib.ListN.{length, getD}
 use Rattle.sums.specs.Sums.{bit}
 use Rattle.sectors.specs.Sectors.{sec}
 use Rattle.counts.specs.declared.View.{View}
-use Rattle.counts.specs.Stamps.{tableIn}
+use Rattle.counts.specs.Stamps.{tableIn, asIs}
 use Rattle.directory.specs.Directory.{entriesOf}
-use Rattle.apages.specs.Bits.{clearBits}
+use Rattle.apages.specs.Free.{freeIn, waitingIn}
 use Rattle.apages.specs.Index.{pageIn}
 use Rattle.card.specs.declared.Answer.{Answer}
 use Rattle.card.specs.declared.Line.{Line}
@@ -20,14 +20,16 @@ use Rattle.card.specs.Files.{filesOf, noLine, lineEnd, getPlan, getEnd}
 use Rattle.session.specs.declared.Opened.{Opened}
 use Rattle.session.specs.declared.Session.{Session}
 use Rattle.session.specs.declared.Session.the-variants.{Open, Closed}
-use Rattle.session.specs.Views.{presentView, presentTable, presentPage, presentFiles}
+use Rattle.session.specs.Views.{presentView, presentTable, presentPage, cutPage, presentFiles}
 use Rattle.session.specs.Fits.{fits}
 use Rattle.card.specs.ReadLaws.{IsGot, getIn}
 use Rattle.card.specs.CoverLaws.{RunsOk, entries-runs}
 use Rattle.card.specs.SoundLaws.{view-inv}
 use Rattle.card.specs.PlanLaws.{guard-no, guard-yes}
 use Rattle.session.specs.FitLaws.{fit-inv}
-use Rattle.store.specs.Look.{line, free, get}
+use Rattle.store.specs.declared.Room.{Room}
+use Rattle.store.specs.Look.{line, noFigures, figures, free, get}
+use Rattle.store.specs.ViewLaws.{fit-laid, present-is, cut-is}
 
 pub got : (e : Got) {f : Got} {r : Answer} {x : List ℕ} → e ≡ f → r ≡ f .answer → x ≡ f .out → IsGot r x e
 got e h p q = rw h (p, q)
@@ -35,16 +37,20 @@ got e h p q = rw h (p, q)
 -- ---- free and line
 
 module _ (s : Opened) (work : List ℕ) {o : Session} (eo : o ≡ Open s) where
-  pub free-2 : {r : Answer} → fits s work ≡ false → r ≡ refused 2 → r ≡ free o work
+  pub free-2 : {r : Room} → fits s work ≡ false → r ≡ noFigures 2 → r ≡ free o work
   unfolding free guard ended
-  free-2 z f = let e : free (Open s) work ≡ refused 2 = rw z in f ∙ sym e ∙ sym (ap (λ (q : Session). free q work) eo)
+  free-2 z f = let e : free (Open s) work ≡ noFigures 2 = rw z in f ∙ sym e ∙ sym (ap (λ (q : Session). free q work) eo)
 
-  pub free-done : {v : View} {m : ℕ} {r : Answer} → fits s work ≡ true → v ≡ presentView s → m ≡ clearBits (pageIn (s .geo) (tableIn (s .geo) v (sec work)) (sec work))
-      → r ≡ done m → r ≡ free o work
-  unfolding free guard ended presentPage presentTable
-  free-done z ev em f =
-      let e : free (Open s) work ≡ done (clearBits (presentPage s (sec work))) = rw z in
-      f ∙ rw (em, ev) (sym e) ∙ sym (ap (λ (q : Session). free q work) eo)
+  pub free-done : {v w : View} {m n : ℕ} → fits s work ≡ true → v ≡ presentView s → w ≡ asIs (s .geo)
+      → m ≡ freeIn (pageIn (s .geo) (tableIn (s .geo) v (sec work)) (sec work)) (pageIn (s .geo) (tableIn (s .geo) w (sec work)) (sec work))
+      → n ≡ waitingIn (pageIn (s .geo) (tableIn (s .geo) v (sec work)) (sec work)) (pageIn (s .geo) (tableIn (s .geo) w (sec work)) (sec work))
+      → record { number = 0; free = m; waiting = n } ≡ free o work
+  unfolding free guard ended figures presentPage cutPage
+  free-done z ev ew em en =
+      let e : free (Open s) work ≡ figures s work = rw z in
+      let p = present-is s work ev ew (fit-laid s work z) in
+      let c = cut-is s work ev ew (fit-laid s work z) in
+      rw (em, en, p, c) (sym e) ∙ sym (ap (λ (q : Session). free q work) eo)
 
   pub line-2 : (i : ℕ) {r : Lined} → fits s work ≡ false → r ≡ record { answer = refused 2; line = noLine } → r ≡ line o work i
   unfolding line lineEnd guard ended

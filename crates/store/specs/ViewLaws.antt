@@ -41,11 +41,11 @@ fit-pair s work h = let F = fit-inv s work h in view-pair _ _ _ _ (view-inv _ _ 
 -- ---- put's searches, from what the calls in them say
 
 module _ (s : Opened) (work : List ℕ) {v w : View} (ev : v ≡ presentView s) (ew : w ≡ asIs (s .geo)) (laid : LaidOut (s .geo) work) where
-  present-is : tableIn (s .geo) v (sec work) ≡ presentTable s (sec work)
+  pub present-is : tableIn (s .geo) v (sec work) ≡ presentTable s (sec work)
   unfolding presentTable
   present-is = rw ev
 
-  cut-is : tableIn (s .geo) w (sec work) ≡ cutTable s (sec work)
+  pub cut-is : tableIn (s .geo) w (sec work) ≡ cutTable s (sec work)
   unfolding cutTable
   cut-is = rw ew (as-is (s .geo) work laid)
 

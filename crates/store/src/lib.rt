@@ -7,3 +7,10 @@ pub struct Outcome {
     pub answer: Answer,
     pub session: Session,
 }
+
+// What free gives back: the number, the sectors clear in both views, and those that the next sync releases.
+pub struct Room {
+    pub number: u32,
+    pub free: u32,
+    pub waiting: u32,
+}
