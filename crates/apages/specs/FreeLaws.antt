@@ -5,10 +5,10 @@ use Prim.Native.Nat.{ℕ, zero, suc, _+_, _-_, _*_, _≤_, _<_}
 use native.Mathlib.Omega.{arith}
 use lib.ListN.{length, getD}
 use Rattle.sums.specs.Sums.{total}
-use Rattle.sums.specs.SumLaws.{total-front, total-add, total-same, total-zero, total-empty}
-use Rattle.apages.specs.Bits.{bitAt, bitsN, bitsOf, clearIn, clearBits}
+use Rattle.sums.specs.SumLaws.{total-add, total-same, total-zero, total-empty}
+use Rattle.apages.specs.Bits.{bitAt, bitsOf, clearIn, clearBits}
 use Rattle.apages.specs.BitLaws.{bit-lt, bits-at, bits-length}
-use Rattle.apages.specs.RunLaws.{clearIn-total, clear-total}
+use Rattle.apages.specs.RunLaws.{total-front, clearIn-total, clear-total, clear-most}
 use Rattle.apages.specs.Runs.{merge}
 use Rattle.apages.specs.LowestLaws.{merge-at, merge-length}
 use Rattle.apages.specs.MapLaws.{bits-over, clearIn-over}
@@ -80,6 +80,13 @@ module _ (p q : List ℕ) (alike : length p ≡ length q) where
       omega
       (arith, free-total, waiting-total, clear-total p, total-add (freeAt p q) (waitsAt p q) (λ n. 1 - bitAt p n) (8 * length p) (λ n l. either-at p q n))
 
+  -- each is at most all sectors
+  pub free-most : freeIn p q ≤ 8 * length p
+  free-most = omega (arith, free-waiting, clear-most p)
+
+  pub waiting-most : waitingIn p q ≤ 8 * length p
+  waiting-most = omega (arith, free-waiting, clear-most p)
+
   -- none is free exactly when no sector is clear in both
   pub none-free : freeIn p q ≡ 0 → (n : ℕ) → n < 8 * length p → ¬ ((bitAt p n ≡ 0) × (bitAt q n ≡ 0))
   none-free e n l b = absurd (omega (arith, total-empty (freeAt p q) (8 * length p) (sym free-total ∙ e) n l, free-here p q n b))
@@ -101,6 +108,14 @@ pub free-self : (p : List ℕ) → freeIn p p ≡ clearBits p
 free-self p = omega (arith, free-waiting p p refl, waiting-self p)
 
 -- ---- maps one behind the other
+
+pub free-empty : freeIn [] [] ≡ 0
+unfolding freeIn bitsOf merge clearIn
+free-empty = refl
+
+pub waiting-empty : waitingIn [] [] ≡ 0
+unfolding waitingIn bitsOf waits
+waiting-empty = refl
 
 waits-over : (a b c d : List ℕ) → length a ≡ length b → waits (a ++ c) (b ++ d) ≡ waits a b + waits c d
 unfolding waits
