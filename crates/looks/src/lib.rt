@@ -1,19 +1,20 @@
-// Looking at a session's present view: a file, one line of its list, and its free sectors.
+// Looking at a session: a file of its present view, one line of its list, and its free and waiting sectors.
 ghost use mathlib.Core.Path.{_≡_};
 ghost use Rattle.card.specs.Plan.{refused};
 ghost use Rattle.card.specs.Files.{noLine};
-ghost use Rattle.store.specs.Look.{get, line, free};
+ghost use Rattle.store.specs.Look.{get, line, noFigures, free};
 use card::Answer;
 use card::Lined;
 use card::refusal;
 use card::success;
-use files::clear_in;
+use figures::figures_in;
 use files::file_count;
 use files::get_in;
 use files::line_in;
 use files::no_line;
 use files::one_if;
 use session::Session;
+use store::Room;
 
 // No line, and the number of a refusal.
 fn unlined(k: u32) -> Lined
@@ -24,21 +25,37 @@ fn unlined(k: u32) -> Lined
     Lined { answer, line }
 }
 
-// "free 4, 2"
-pub fn free(session: Session, work: &[u8]) -> Answer
+// No figures, and the number of a refusal.
+fn no_figures(k: u32) -> Room
+    ensures { λ r. ⌜ r ≡ noFigures k ⌝ }
+{
+    Room {
+        number: k,
+        free: 0,
+        waiting: 0,
+    }
+}
+
+// "free 4, 2": the sectors clear in both views, and those that the next sync releases.
+pub fn free(session: Session, work: &[u8]) -> Room
     ensures { λ r. ⌜ r ≡ free session (now (work .entry)) ⌝ }
 {
     let Session::Open(s) = session else {
-        return refusal(4);
+        return no_figures(4);
     };
     let fit = fit::fits(s, work);
     if !fit {
-        return refusal(2);
+        return no_figures(2);
     }
     let g = s.geo;
     let present = session::present_view(s);
-    let n = clear_in(work, g, present);
-    success(n)
+    let cut = counts::as_is(g);
+    let f = figures_in(work, g, present, cut);
+    Room {
+        number: 0,
+        free: f.free,
+        waiting: f.waiting,
+    }
 }
 
 // The line at a position (4, 2); the count is 1 where there is one, else 0.

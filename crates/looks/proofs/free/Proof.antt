@@ -1,6 +1,7 @@
 -- Its tests in their order; a fit gives the layout and the index. Assumes nothing.
-use mathlib.Core.Path.{_∙_}
+use mathlib.Core.Path.{ap, _∙_}
 use borrow.Author.Needs.{needs}
+use Rattle.figures.specs.declared.Figures.{Figures}
 use Rattle.store.specs.ViewLaws.{fit-laid, fit-pair}
 use Rattle.store.specs.CallLaws.{passed, failed}
 use Rattle.store.specs.LookLaws.{free-2, free-done}
@@ -14,33 +15,35 @@ enum-known-session c = search needs
 enum-told : tie.Need-enum-told
 enum-told c = search needs
 
-refusal-requires : tie.Need-refusal-requires
-refusal-requires c κs = search needs
+no-figures-requires : tie.Need-no-figures-requires
+no-figures-requires c κs = search needs
 
 returns : tie.Need-returns
 unfolding free
-returns c = c .refusal .ensures ∙ rw (c .before .enum-told .given .1)
+returns c = c .no-figures .ensures ∙ rw (c .before .enum-told .given .1)
 
 fits-requires : tie.Need-fits-requires
 fits-requires c κs = search needs
 
-refusal-requires-2 : tie.Need-refusal-requires-2
-refusal-requires-2 c κs = search needs
+no-figures-requires-2 : tie.Need-no-figures-requires-2
+no-figures-requires-2 c κs = search needs
 
 returns-2 : tie.Need-returns-2
-returns-2 c = free-2 _ _ (c .before .before .before .before .session .given .1) (failed (c .before .before .fits2 .ensures) (c .before .if1 .taken)) (c .refusal2 .ensures)
+returns-2 c = free-2 _ _ (c .before .before .before .before .session .given .1) (failed (c .before .before .fits2 .ensures) (c .before .if1 .taken)) (c .no-figures2 .ensures)
 
 present-view-requires : tie.Need-present-view-requires
 present-view-requires c κs = let l = fit-laid _ _ (passed (c .before .before .fits2 .ensures) (c .before .if1 .left)) in search needs
 
-clear-in-requires : tie.Need-clear-in-requires
-clear-in-requires c κs = let f = passed (c .before .before .before .fits2 .ensures) (c .before .before .if1 .left) in (fit-laid _ _ f, fit-pair _ _ f)
+as-is-requires : tie.Need-as-is-requires
+as-is-requires c κs = let l = fit-laid _ _ (passed (c .before .before .before .fits2 .ensures) (c .before .before .if1 .left)) in search needs
 
-success-requires : tie.Need-success-requires
-success-requires c κs = search needs
+figures-in-requires : tie.Need-figures-in-requires
+figures-in-requires c κs = let f = passed (c .before .before .before .before .fits2 .ensures) (c .before .before .before .if1 .left) in (fit-laid _ _ f, fit-pair _ _ f)
 
 returns-3 : tie.Need-returns-3
-returns-3 c = free-done _ _ (c .before .before .before .before .before .before .before .session .given .1) (passed (c .before .before .before .before .before .fits2 .ensures) (c .before .before .before .before .if1 .left)) (c .before .before .present-view .ensures) (c .before .clear-in .ensures) (c .success .ensures)
+returns-3 c =
+    let f = passed (c .before .before .before .before .before .fits2 .ensures) (c .before .before .before .before .if1 .left) in
+    free-done _ _ (c .before .before .before .before .before .before .before .session .given .1) f (c .before .before .present-view .ensures) (c .before .as-is .ensures) (ap (λ (x : Figures). x .free) (c .figures-in .ensures)) (ap (λ (x : Figures). x .waiting) (c .figures-in .ensures))
 
 pub free-spec : {M : Type 1} → statement M
 free-spec =
@@ -48,12 +51,12 @@ free-spec =
     (tie.spec
     enum-known-session
     enum-told
-    refusal-requires
+    no-figures-requires
     returns
     fits-requires
-    refusal-requires-2
+    no-figures-requires-2
     returns-2
     present-view-requires
-    clear-in-requires
-    success-requires
+    as-is-requires
+    figures-in-requires
     returns-3)
