@@ -1,11 +1,12 @@
 -- Free and waiting of two maps: as counts over sectors, what they add up to, and maps one behind the other. Assumes nothing.
 use mathlib.Core.Path.{_≡_, refl, sym, ap, _∙_}
 use mathlib.Core.List.{List, [], _∷_, _++_}
+use mathlib.Core.Logic.{⊎-elim}
 use Prim.Native.Nat.{ℕ, zero, suc, _+_, _-_, _*_, _≤_, _<_}
 use native.Mathlib.Omega.{arith}
 use lib.ListN.{length, getD}
-use Rattle.sums.specs.Sums.{total}
-use Rattle.sums.specs.SumLaws.{total-add, total-same, total-zero, total-empty}
+use Rattle.sums.specs.Sums.{total, inRun}
+use Rattle.sums.specs.SumLaws.{place, total-add, total-run, total-same, total-zero, total-empty}
 use Rattle.apages.specs.Bits.{bitAt, bitsOf, clearIn, clearBits}
 use Rattle.apages.specs.BitLaws.{bit-lt, bits-at, bits-length}
 use Rattle.apages.specs.RunLaws.{total-front, clearIn-total, clear-total, clear-most}
@@ -93,6 +94,17 @@ module _ (p q : List ℕ) (alike : length p ≡ length q) where
 
   pub free-none : ((n : ℕ) → n < 8 * length p → ¬ ((bitAt p n ≡ 0) × (bitAt q n ≡ 0))) → freeIn p q ≡ 0
   free-none h = free-total ∙ total-same (freeAt p q) (λ n. 0) (8 * length p) (λ n l. busy-here p q n (h n l)) ∙ total-zero (8 * length p)
+
+  -- the sectors of a run that is clear in both are free
+  pub free-run : (a k : ℕ) → a + k ≤ 8 * length p → ((n : ℕ) → a ≤ n → n < a + k → (bitAt p n ≡ 0) × (bitAt q n ≡ 0)) → k ≤ freeIn p q
+  free-run a k l h =
+      omega
+      (arith, free-total, total-run a k (8 * length p), total-add (inRun a k) (λ n. freeAt p q n - inRun a k n) (freeAt p q) (8 * length p) (λ n b. each n))
+    where
+      each : (n : ℕ) → inRun a k n + (freeAt p q n - inRun a k n) ≡ freeAt p q n
+      each n =
+          ⊎-elim (λ w. omega arith)
+          (⊎-elim (λ w. omega (arith, free-here p q n (h n (w .0) (w .1)))) (λ w. omega arith)) (place a k n)
 
 -- ---- one map twice: nothing waits
 

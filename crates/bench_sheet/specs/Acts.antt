@@ -17,6 +17,7 @@ use Rattle.card.specs.Reading.{filesShown, read}
 use Rattle.session.specs.declared.Session.{Session}
 use Rattle.session.specs.declared.Session.the-variants.{Closed, Open}
 use Rattle.session.specs.Views.{sessionFiles}
+use Rattle.store.specs.declared.Room.{Room}
 use Rattle.store.specs.Steps.{setCount, setWord, syncSteps}
 use Rattle.store.specs.Mount.{mount}
 use Rattle.store.specs.Edit.{put, remove}
@@ -33,8 +34,8 @@ pub data Act : Type 0 where
   removes : List ℕ → ℕ → Act
   -- get into an output of so many bytes 9: the number and the count; that many bytes 7, and the rest as lent
   gets : List ℕ → ℕ → ℕ → ℕ → Act
-  -- the clear bits of the present view
-  frees : ℕ → Act
+  -- free and waiting
+  frees : ℕ → ℕ → Act
   syncs : ℕ → Act
   -- land of a sector
   lands : ℕ → ℕ → Act
@@ -80,6 +81,9 @@ isAnswer k n a = eqb k (a .number) && eqb n (a .count)
 unfoldable pub isReport : ℕ → ℕ → ℕ → ℕ → Report → Bool
 isReport k c f n r = eqb k (r .number) && eqb c (r .c) && eqb f (r .files) && eqb n (r .free)
 
+unfoldable pub isRoom : ℕ → ℕ → Room → Bool
+isRoom f n r = eqb 0 (r .number) && eqb f (r .free) && eqb n (r .waiting)
+
 -- the card after the first n steps of a sync
 unfoldable pub stepsDone : Session → ℕ → List ℕ → List ℕ → List ℕ
 stepsDone Closed n card work = card
@@ -87,7 +91,7 @@ stepsDone (Open s) n card work = applySteps (take n (syncSteps s work [])) card
 
 -- the acts of one case in order: each gives what the line says, or the case fails
 unfoldable pub run : Bench → List Act → Bool
-unfolding hasLine isAnswer isReport stepsDone
+unfolding hasLine isAnswer isReport isRoom stepsDone
 run w [] = true
 run w (makes s k ∷ acts) =
     let r = make (geoFor s) (replicate (512 * s) 5) in
@@ -103,7 +107,7 @@ run w (removes n k ∷ acts) =
 run w (gets n l k b ∷ acts) =
     let r = get (w .session) (w .work) n (replicate l 9) in
     cond (isAnswer k b (r .answer) && eqList (r .out) (replicate b 7 ++ drop b (replicate l 9))) (run w acts) false
-run w (frees n ∷ acts) = cond (isAnswer 0 n (free (w .session) (w .work))) (run w acts) false
+run w (frees f n ∷ acts) = cond (isRoom f n (free (w .session) (w .work))) (run w acts) false
 run w (syncs k ∷ acts) =
     let r = sync (w .session) (w .card) (w .work) in
     cond (isAnswer k 0 (r .answer)) (run (record { session = r .session; card = r .card; work = r .work }) acts) false

@@ -14,6 +14,7 @@ use Rattle.entries.specs.Entries.{versionOf, versionBytes, newOf, oldOf, nameBy
 use Rattle.directory.specs.Directory.{sectorEntries, entriesFrom, entriesOf, spotsFrom, spotOf, setEntry, gone, apart, named}
 use Rattle.apages.specs.Bits.{bitAt, putDigit, putBit, setRun, bitsN, bitsOf, clearIn, clearBits}
 use Rattle.apages.specs.Runs.{merge, allClear, findRun, lowestRun, runFor, outside, wanted, bitsOk, bytesToS, pageOk, dataFrom, dataTo, freshPage}
+use Rattle.apages.specs.Free.{freeIn, waits, waitingIn}
 use Rattle.apages.specs.Index.{indexOf, groupBytes, groupOf, everyGroup, indexIn, pairOk, groupOk, indexOk, shownPage, pageAt, mapFrom, pageIn, changedIndex, pageBefore, changedRun, changeRun, changeBits}
 use Rattle.card.specs.Plan.{guard, need, ended, refused, done}
 use Rattle.card.specs.Files.{consFile, filesOf, cover, contentOf, runOf, runAt, getPlan, getEnd, listPlan, listEnd}
@@ -25,9 +26,9 @@ use Rattle.session.specs.Fits.{sizesOk, headOk, wordOk, stampAtMost, entryAtMos
 use Rattle.store.specs.Steps.{setCount, setWord, tableSector, mountSteps, syncSteps, atTop, downSteps, unmountStepsBy, unmountSteps, syncWork, downWork, unmountWorkBy, unmountWork}
 use Rattle.store.specs.Mount.{mountPlan, openedFrom, mountDone, mount}
 use Rattle.store.specs.Edit.{orElse, putPlace, placeIn, runIn, putPlan, putContent, editWork, putRun, putWork, put, removePlan, removeWork, remove}
-use Rattle.store.specs.Look.{get, list, free}
+use Rattle.store.specs.Look.{get, list, noFigures, figures, free}
 use Rattle.store.specs.Sync.{bothPlan, land, grown, syncDone, sync, unmountDone, unmount}
-use Rattle.bench_sheet.specs.Acts.{Act, makes, mounts, puts, removes, gets, frees, syncs, lands, unmounts, cuts, syncCuts, shows, reads, readsLine, refuses, counts, sets, tops, stamps, sameLine, hasLine, isAnswer, isReport, stepsDone, run, all}
+use Rattle.bench_sheet.specs.Acts.{Act, makes, mounts, puts, removes, gets, frees, syncs, lands, unmounts, cuts, syncCuts, shows, reads, readsLine, refuses, counts, sets, tops, stamps, sameLine, hasLine, isAnswer, isReport, isRoom, stepsDone, run, all}
 
 abbrev pub a : List ℕ
 a = 97 ∷ []
@@ -57,18 +58,18 @@ unfolding ten four
 starred =
     -- S = 6 is refused 1; S = 7 is made
     (makes 6 1 ∷ [])
-    ∷ (makes 7 0 ∷ reads 0 0 1 ∷ mounts 0 ∷ puts a 1 0 ∷ shows a 1 6 1 ∷ frees 0 ∷ [])
+    ∷ (makes 7 0 ∷ reads 0 0 1 ∷ mounts 0 ∷ puts a 1 0 ∷ shows a 1 6 1 ∷ frees 0 0 ∷ [])
     -- Name of 32 bytes taken; 0 and 33 refused 5
-    ∷ ten (puts (replicate 32 120) 1 0 ∷ shows (replicate 32 120) 1 6 1 ∷ frees 3 ∷ [])
-    ∷ ten (puts [] 1 5 ∷ frees 4 ∷ puts (replicate 33 120) 1 5 ∷ frees 4 ∷ [])
+    ∷ ten (puts (replicate 32 120) 1 0 ∷ shows (replicate 32 120) 1 6 1 ∷ frees 3 0 ∷ [])
+    ∷ ten (puts [] 1 5 ∷ frees 4 0 ∷ puts (replicate 33 120) 1 5 ∷ frees 4 0 ∷ [])
     -- 513 bytes take sectors 6 and 7
-    ∷ ten (puts a 513 0 ∷ shows a 513 6 2 ∷ frees 2 ∷ [])
+    ∷ ten (puts a 513 0 ∷ shows a 513 6 2 ∷ frees 2 0 ∷ [])
     -- Put a (2 sectors), sync, put a (2 sectors): at 8. Put b of 1 byte: 8. After sync it goes to 6
-    ∷ ten (puts a 1024 0 ∷ syncs 0 ∷ puts a 1024 0 ∷ shows a 1024 8 2 ∷ puts b 1 8 ∷ syncs 0 ∷ puts b 1 0 ∷ shows b 1 6 1 ∷ [])
+    ∷ ten (puts a 1024 0 ∷ syncs 0 ∷ puts a 1024 0 ∷ shows a 1024 8 2 ∷ frees 0 2 ∷ puts b 1 8 ∷ syncs 0 ∷ frees 2 0 ∷ puts b 1 0 ∷ shows b 1 6 1 ∷ [])
     -- Put a (1 sector), remove a, put b (1 sector), no sync: b at 6
-    ∷ ten (puts a 1 0 ∷ removes a 0 ∷ puts b 1 0 ∷ shows b 1 6 1 ∷ frees 3 ∷ [])
+    ∷ ten (puts a 1 0 ∷ removes a 0 ∷ puts b 1 0 ∷ shows b 1 6 1 ∷ frees 3 0 ∷ [])
     -- 0 bytes are stored with no room left
-    ∷ ten (puts a 2048 0 ∷ frees 0 ∷ puts b 0 0 ∷ shows b 0 0 0 ∷ [])
+    ∷ ten (puts a 2048 0 ∷ frees 0 0 ∷ puts b 0 0 ∷ shows b 0 0 0 ∷ [])
     -- Four synced files of 0 bytes, one removed: a fifth name gets 7, and after a sync it is taken. Put instead of it, the removed name is taken at once
     ∷ four (removes b 0 ∷ puts e 0 7 ∷ syncs 0 ∷ puts e 0 0 ∷ shows e 0 0 0 ∷ [])
     ∷ four (removes b 0 ∷ puts b 0 0 ∷ shows b 0 0 0 ∷ [])
@@ -96,10 +97,10 @@ others =
 
 -- every starred line of the bench sheet holds
 pub sheet : all starred ≡ true
-unfolding all starred run sameLine hasLine isAnswer isReport stepsDone ten four inRun every pairwise firstAt eqList part over splice setPart pad wordAt words wordBytes sec setSec applySteps copySteps gN gP gDir gF geoOk countOf geoOf tableFrom tableOf stampOf alive showing stampOk deadBelow tableOk tableIn asIs sameStamp standing becomesOld versionOf versionBytes newOf oldOf nameBytes entryOf entryBytes shownBytes shown goodName nameOf nameOk sectorsFor runOk versionOk entryOk changed sectorEntries entriesFrom entriesOf spotsFrom spotOf setEntry gone apart named bitAt putDigit putBit setRun bitsN bitsOf clearIn clearBits merge allClear findRun lowestRun runFor outside wanted bitsOk bytesToS pageOk dataFrom dataTo freshPage indexOf groupBytes groupOf everyGroup indexIn pairOk groupOk indexOk shownPage pageAt mapFrom pageIn changedIndex pageBefore changedRun changeRun changeBits guard need ended refused done consFile filesOf cover contentOf runOf runAt getPlan getEnd listPlan listEnd viewOk soundIn shapeOk sound blockBytes freshGroup freshGroups freshIndex freshPages freshCard makePlan make filesIn filesShown pageShown readPlan read readList readGet ownStamp presentView presentTable cutTable presentPage cutPage presentFiles sessionFiles sizesOk headOk wordOk stampAtMost entryAtMost groupAtMost indexAtMost fitsIn fits setCount setWord tableSector mountSteps syncSteps atTop downSteps unmountStepsBy unmountSteps syncWork downWork unmountWorkBy unmountWork mountPlan openedFrom mountDone mount orElse putPlace placeIn runIn putPlan putContent editWork putRun putWork put removePlan removeWork remove get list free bothPlan land grown syncDone sync unmountDone unmount
+unfolding all starred run sameLine hasLine isAnswer isReport isRoom stepsDone ten four inRun every pairwise firstAt eqList part over splice setPart pad wordAt words wordBytes sec setSec applySteps copySteps gN gP gDir gF geoOk countOf geoOf tableFrom tableOf stampOf alive showing stampOk deadBelow tableOk tableIn asIs sameStamp standing becomesOld versionOf versionBytes newOf oldOf nameBytes entryOf entryBytes shownBytes shown goodName nameOf nameOk sectorsFor runOk versionOk entryOk changed sectorEntries entriesFrom entriesOf spotsFrom spotOf setEntry gone apart named bitAt putDigit putBit setRun bitsN bitsOf clearIn clearBits merge allClear findRun lowestRun runFor outside wanted bitsOk bytesToS pageOk dataFrom dataTo freshPage freeIn waits waitingIn indexOf groupBytes groupOf everyGroup indexIn pairOk groupOk indexOk shownPage pageAt mapFrom pageIn changedIndex pageBefore changedRun changeRun changeBits guard need ended refused done consFile filesOf cover contentOf runOf runAt getPlan getEnd listPlan listEnd viewOk soundIn shapeOk sound blockBytes freshGroup freshGroups freshIndex freshPages freshCard makePlan make filesIn filesShown pageShown readPlan read readList readGet ownStamp presentView presentTable cutTable presentPage cutPage presentFiles sessionFiles sizesOk headOk wordOk stampAtMost entryAtMost groupAtMost indexAtMost fitsIn fits setCount setWord tableSector mountSteps syncSteps atTop downSteps unmountStepsBy unmountSteps syncWork downWork unmountWorkBy unmountWork mountPlan openedFrom mountDone mount orElse putPlace placeIn runIn putPlan putContent editWork putRun putWork put removePlan removeWork remove get list noFigures figures free bothPlan land grown syncDone sync unmountDone unmount
 sheet = refl
 
 -- and so do these
 pub sheet-others : all others ≡ true
-unfolding all others run sameLine hasLine isAnswer isReport stepsDone ten four inRun every pairwise firstAt eqList part over splice setPart pad wordAt words wordBytes sec setSec applySteps copySteps gN gP gDir gF geoOk countOf geoOf tableFrom tableOf stampOf alive showing stampOk deadBelow tableOk tableIn asIs sameStamp standing becomesOld versionOf versionBytes newOf oldOf nameBytes entryOf entryBytes shownBytes shown goodName nameOf nameOk sectorsFor runOk versionOk entryOk changed sectorEntries entriesFrom entriesOf spotsFrom spotOf setEntry gone apart named bitAt putDigit putBit setRun bitsN bitsOf clearIn clearBits merge allClear findRun lowestRun runFor outside wanted bitsOk bytesToS pageOk dataFrom dataTo freshPage indexOf groupBytes groupOf everyGroup indexIn pairOk groupOk indexOk shownPage pageAt mapFrom pageIn changedIndex pageBefore changedRun changeRun changeBits guard need ended refused done consFile filesOf cover contentOf runOf runAt getPlan getEnd listPlan listEnd viewOk soundIn shapeOk sound blockBytes freshGroup freshGroups freshIndex freshPages freshCard makePlan make filesIn filesShown pageShown readPlan read readList readGet ownStamp presentView presentTable cutTable presentPage cutPage presentFiles sessionFiles sizesOk headOk wordOk stampAtMost entryAtMost groupAtMost indexAtMost fitsIn fits setCount setWord tableSector mountSteps syncSteps atTop downSteps unmountStepsBy unmountSteps syncWork downWork unmountWorkBy unmountWork mountPlan openedFrom mountDone mount orElse putPlace placeIn runIn putPlan putContent editWork putRun putWork put removePlan removeWork remove get list free bothPlan land grown syncDone sync unmountDone unmount
+unfolding all others run sameLine hasLine isAnswer isReport isRoom stepsDone ten four inRun every pairwise firstAt eqList part over splice setPart pad wordAt words wordBytes sec setSec applySteps copySteps gN gP gDir gF geoOk countOf geoOf tableFrom tableOf stampOf alive showing stampOk deadBelow tableOk tableIn asIs sameStamp standing becomesOld versionOf versionBytes newOf oldOf nameBytes entryOf entryBytes shownBytes shown goodName nameOf nameOk sectorsFor runOk versionOk entryOk changed sectorEntries entriesFrom entriesOf spotsFrom spotOf setEntry gone apart named bitAt putDigit putBit setRun bitsN bitsOf clearIn clearBits merge allClear findRun lowestRun runFor outside wanted bitsOk bytesToS pageOk dataFrom dataTo freshPage freeIn waits waitingIn indexOf groupBytes groupOf everyGroup indexIn pairOk groupOk indexOk shownPage pageAt mapFrom pageIn changedIndex pageBefore changedRun changeRun changeBits guard need ended refused done consFile filesOf cover contentOf runOf runAt getPlan getEnd listPlan listEnd viewOk soundIn shapeOk sound blockBytes freshGroup freshGroups freshIndex freshPages freshCard makePlan make filesIn filesShown pageShown readPlan read readList readGet ownStamp presentView presentTable cutTable presentPage cutPage presentFiles sessionFiles sizesOk headOk wordOk stampAtMost entryAtMost groupAtMost indexAtMost fitsIn fits setCount setWord tableSector mountSteps syncSteps atTop downSteps unmountStepsBy unmountSteps syncWork downWork unmountWorkBy unmountWork mountPlan openedFrom mountDone mount orElse putPlace placeIn runIn putPlan putContent editWork putRun putWork put removePlan removeWork remove get list noFigures figures free bothPlan land grown syncDone sync unmountDone unmount
 sheet-others = refl

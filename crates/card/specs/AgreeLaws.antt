@@ -75,7 +75,7 @@ module _ (g : Geo) (k k′ : Cells) (x : ℕ) (low : x ≤ g .t) (other : (i : �
   unfolding indexIn
   index-agree = other (g .t + 1) (omega arith)
 
-  page-agree : (bound : ℕ) (tab : List ℕ) → View g bound tab k → pageIn g tab k′ ≡ pageIn g tab k
+  pub page-agree : (bound : ℕ) (tab : List ℕ) → View g bound tab k → pageIn g tab k′ ≡ pageIn g tab k
   page-agree bound tab w =
       map-same g tab tab k k′
       (λ p l. (unfold pageAt in rw index-agree (other (shownPage tab (groupOf (indexIn g k) p)) (λ e. omega (arith, view-page g bound tab k w p l .0)))))

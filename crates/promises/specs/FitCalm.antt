@@ -29,7 +29,7 @@ use Rattle.card.specs.Sound.{viewOk}
 use Rattle.card.specs.AgreeLaws.{view-mono}
 use Rattle.session.specs.declared.Opened.{Opened}
 use Rattle.session.specs.declared.Session.the-variants.{Open}
-use Rattle.session.specs.Views.{presentTable, presentFiles, sessionFiles}
+use Rattle.session.specs.Views.{presentTable, cutTable, presentPage, cutPage, presentFiles, sessionFiles}
 use Rattle.session.specs.Fits.{headOk, wordOk, stampAtMost, entryAtMost, indexAtMost}
 use Rattle.session.specs.FitLaws.{Fit, at-most, at-most-intro, present-live, present-worn, fit-table, index-most, index-most-intro}
 use Rattle.store.specs.Sync.{grown}
@@ -193,6 +193,16 @@ module _ (s : Opened) (img : List ℕ) (R : Rest s img) where
         stamps = stamps-more true;
         index = index-more true;
       }
+
+  -- its two maps are one, that of the image
+  pub rest-map : (b : Bool) → presentPage (grown b s) (sec img) ≡ pageIn g T (sec img)
+  unfolding presentPage
+  rest-map true = rw worn-table (unfold grown in refl)
+  rest-map false = rw next-table (unfold grown in map-eq s T T′ agree g (sec img) (index-most s (indexIn g (sec img)) (R .index)))
+
+  pub rest-cut : (b : Bool) → cutPage (grown b s) (sec img) ≡ pageIn g T (sec img)
+  unfolding cutPage cutTable
+  rest-cut b = rw (same-geo b)
 
   -- what such a session shows is what the image shows
   pub rest-shows : (b : Bool) → shownIn (Open (grown b s)) img ≡ items img (filesIn g (sec img))

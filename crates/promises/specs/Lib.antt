@@ -39,6 +39,9 @@ pub mod LeavesSync
 pub mod LeavesUnmount
 pub mod LeavesProved
 pub mod NoTwo
+pub mod Free
+pub mod FreeCounts
+pub mod FreeProved
 pub mod Items
 pub mod Base
 pub mod Synced
@@ -65,6 +68,7 @@ pub mod TrialsCard
 pub mod TrialsRun
 pub mod Trials
 pub mod TrialsStore
+pub mod TrialsFree
 pub mod TrialsSync
 pub mod TrialsTable
 pub mod TrialsBuild

@@ -12,7 +12,6 @@ use Rattle.words.specs.BoolLaws.{both}
 use Rattle.sectors.specs.Sectors.{sec}
 use Rattle.counts.specs.declared.Geo.{Geo}
 use Rattle.counts.specs.Geometry.{gN, geoOk, geoOf, countOf}
-use Rattle.card.specs.declared.Answer.{Answer}
 use Rattle.card.specs.declared.Line.{Line}
 use Rattle.card.specs.declared.Report.{Report}
 use Rattle.card.specs.Plan.{Plan, refuse, guard, doIt, refused, done, Changed, Listed}
@@ -32,7 +31,8 @@ use Rattle.session.specs.Fits.{fits}
 use Rattle.session.specs.FitMeans.{Fits}
 use Rattle.session.specs.FitMeansProved.{fits-mean}
 use Rattle.store.specs.Mount.{Ended, mountPlan, mountDone, mount}
-use Rattle.store.specs.Look.{list, free}
+use Rattle.store.specs.declared.Room.{Room}
+use Rattle.store.specs.Look.{list, noFigures, figures, free}
 use Rattle.store.specs.Sync.{bothPlan, land, syncDone, sync, unmountDone, unmount}
 use Rattle.promises.specs.Numbers.{Row, row, Exactly, Misshapen, closed, makeRows, mountRows, listRows, freeRows, landRows, syncRows, unmountRows, readRows, readListRows}
 use Rattle.promises.specs.RowLaws.{Follows, exactly, numberOf, ended-number, done-row, guard-row, means-row, not-row, eq-row, le-row, lt-row, and-fails, clash, closed-row, open-row}
@@ -128,11 +128,11 @@ of-list (Open s) work lines =
     (λ e. le-row 10 (length (presentFiles s (sec work))) (length lines) (doIt 0 0) [] (λ l. done-row))))
 
 pub of-free : (s : Session) (work : List ℕ) → Exactly (free s work .number) (freeRows s work)
-unfolding free refused done numberOf
+unfolding free noFigures figures numberOf
 of-free Closed work = exactly {rows = freeRows Closed work} {p = refuse 4} refl closed-row
 of-free (Open s) work =
     exactly
-    (ended-number (λ (r : Answer). r .number) _ _ (λ k. refl) (λ j a. refl) (guard 2 (fits s work) (doIt 0 0)))
+    (ended-number (λ (r : Room). r .number) _ _ (λ k. refl) (λ j a. refl) (guard 2 (fits s work) (doIt 0 0)))
     (open-row s (means-row 2 (fits s work) (doIt 0 0) [] (fits-mean s work) (λ e. done-row)))
 
 -- the first rows of the calls with two images

@@ -55,8 +55,9 @@ pub record SessionShows (s : Opened) (work : List ℕ) : Type 0 where
   pub tells : Lines (shownIn (Open s) work) (presentFiles s (sec work))
   pub lists : (lines : List Line) → length (shownIn (Open s) work) ≤ length lines
       → list (Open s) work lines ≡ record { answer = done (length (shownIn (Open s) work)); lines = presentFiles s (sec work) ++ drop (length (shownIn (Open s) work)) lines }
-  -- "free sectors, sectors of present files and F add up to S"
-  pub frees : (free (Open s) work .number ≡ 0) × (free (Open s) work .count + sectorsOf (presentFiles s (sec work)) + gF (s .geo) ≡ s .geo .s)
+  -- "Free, waiting, sectors of present files and F add up to S"
+  pub frees : (free (Open s) work .number ≡ 0)
+      × (free (Open s) work .free + free (Open s) work .waiting + sectorsOf (presentFiles s (sec work)) + gF (s .geo) ≡ s .geo .s)
 
 -- a card of the right shape that is sound
 pub record CardShows (card : List ℕ) : Type 0 where

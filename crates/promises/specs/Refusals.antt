@@ -4,7 +4,6 @@ use mathlib.Core.List.{List}
 use mathlib.Core.Logic.{_≢_}
 use Prim.Native.Nat.{ℕ}
 use Rattle.counts.specs.declared.Geo.{Geo}
-use Rattle.card.specs.declared.Answer.{Answer}
 use Rattle.card.specs.declared.Line.{Line}
 use Rattle.card.specs.declared.Report.{Report}
 use Rattle.card.specs.Plan.{Plan, refuse, doIt, ended, refused, done, Changed, Got, Listed}
@@ -15,7 +14,8 @@ use Rattle.session.specs.declared.Session.{Session}
 use Rattle.session.specs.declared.Session.the-variants.{Closed, Open}
 use Rattle.store.specs.Mount.{Ended, mountPlan, mountDone, mount}
 use Rattle.store.specs.Edit.{putPlan, put, removePlan, remove}
-use Rattle.store.specs.Look.{get, list, free}
+use Rattle.store.specs.declared.Room.{Room}
+use Rattle.store.specs.Look.{get, list, noFigures, figures, free}
 use Rattle.store.specs.Sync.{land, syncDone, sync, unmountDone, unmount}
 
 -- ---- the statement
@@ -40,7 +40,7 @@ pub record Refusals : Type 0 where
   pub ofRemove : (s : Session) (work n : List ℕ) → remove s work n .answer .number ≢ 0 → Same (remove s work n) work
   pub ofGet : (s : Session) (work n out : List ℕ) → get s work n out .answer .number ≢ 0 → SameOut (get s work n out) out
   pub ofList : (s : Session) (work : List ℕ) (lines : List Line) → list s work lines .answer .number ≢ 0 → SameLines (list s work lines) lines
-  pub ofFree : (s : Session) (work : List ℕ) → free s work .number ≢ 0 → free s work .count ≡ 0
+  pub ofFree : (s : Session) (work : List ℕ) → free s work .number ≢ 0 → (free s work .free ≡ 0) × (free s work .waiting ≡ 0)
   pub ofLand : (s : Session) (card work : List ℕ) (i : ℕ) → land s card work i .answer .number ≢ 0 → Same (land s card work i) card
   pub ofSync : (s : Session) (card work : List ℕ) → sync s card work .answer .number ≢ 0 → SameBoth (sync s card work) s card work
   pub ofUnmount : (s : Session) (card work : List ℕ) → unmount s card work .answer .number ≢ 0 → SameBoth (unmount s card work) s card work
@@ -93,10 +93,10 @@ unfolding list refused
 of-list Closed work lines h = (refl, refl)
 of-list (Open s) work lines h = listed-same _ lines _ h
 
-of-free : (s : Session) (work : List ℕ) → free s work .number ≢ 0 → free s work .count ≡ 0
-unfolding free refused done
-of-free Closed work h = refl
-of-free (Open s) work h = refused-so (λ (r : Answer). r .number) (λ r. r .count ≡ 0) _ _ (λ j a. refl) (λ k. refl) _ h
+of-free : (s : Session) (work : List ℕ) → free s work .number ≢ 0 → (free s work .free ≡ 0) × (free s work .waiting ≡ 0)
+unfolding free noFigures figures
+of-free Closed work h = (refl, refl)
+of-free (Open s) work h = refused-so (λ (r : Room). r .number) (λ r. (r .free ≡ 0) × (r .waiting ≡ 0)) _ _ (λ j a. refl) (λ k. (refl, refl)) _ h
 
 of-land : (s : Session) (card work : List ℕ) (i : ℕ) → land s card work i .answer .number ≢ 0 → Same (land s card work i) card
 unfolding land refused done

@@ -3,6 +3,7 @@ use mathlib.Core.Path.{_≡_, refl, sym, _∙_}
 use mathlib.Core.Bool.{true}
 use mathlib.Core.List.{List, _++_}
 use Prim.Native.Nat.{ℕ, _+_, _≤_}
+use native.Mathlib.Omega.{arith}
 use lib.ListN.{length, drop}
 use Rattle.words.specs.Lists.{pairwise}
 use Rattle.sectors.specs.Sectors.{sec}
@@ -10,7 +11,7 @@ use Rattle.counts.specs.declared.Geo.{Geo}
 use Rattle.counts.specs.Geometry.{gN, gF, geoOf, countOf, tableOf}
 use Rattle.entries.specs.Entries.{goodName}
 use Rattle.directory.specs.Directory.{entriesOf, apart}
-use Rattle.apages.specs.Bits.{clearBits}
+use Rattle.apages.specs.FreeLaws.{free-waiting}
 use Rattle.card.specs.declared.Line.{Line}
 use Rattle.card.specs.Plan.{Plan, guard, ended, doIt, done}
 use Rattle.card.specs.Files.{filesOf, sectorsOf, getPlan, getEnd, listPlan, listEnd}
@@ -22,11 +23,12 @@ use Rattle.card.specs.MeansProved.{sound-means}
 use Rattle.card.specs.Reading.{filesIn, filesShown, readPlan, read, readList, readGet}
 use Rattle.session.specs.declared.Opened.{Opened}
 use Rattle.session.specs.declared.Session.the-variants.{Open}
-use Rattle.session.specs.Views.{presentTable, presentPage, presentFiles, sessionFiles}
+use Rattle.session.specs.Views.{presentTable, presentPage, cutPage, presentFiles, sessionFiles}
 use Rattle.session.specs.Fits.{fits}
 use Rattle.session.specs.FitLaws.{Fit, fit-inv}
 use Rattle.session.specs.FitMeansProved.{fits-mean}
-use Rattle.store.specs.Look.{get, list, free}
+use Rattle.store.specs.Look.{get, list, figures, free}
+use Rattle.store.specs.RoomLaws.{alike}
 use Rattle.promises.specs.PlainList.{lookup, shownBy, shownIn}
 use Rattle.promises.specs.PlainCalls.{plainGet, Lines, SessionShows, CardShows, AllShow}
 use Rattle.promises.specs.ListLaws.{listOf}
@@ -56,22 +58,25 @@ module _ (s : Opened) (work : List ℕ) (fit : fits s work ≡ true) where
   unfolding list guard
   list-is lines = rw fit
 
-  free-is : free (Open s) work ≡ done (clearBits (presentPage s (sec work)))
+  pub free-is : free (Open s) work ≡ figures s work
   unfolding free guard ended
   free-is = rw fit
 
-  sums : clearBits (presentPage s (sec work)) + sectorsOf (presentFiles s (sec work)) + gF (s .geo) ≡ s .geo .s
-  unfolding presentPage presentFiles
-  sums = view-space (s .geo) (s .c .0) tp work (F .shape) (F .sized) U
+  -- by counting alone, however the two views lie to each other
+  sums : figures s work .free + figures s work .waiting + sectorsOf (presentFiles s (sec work)) + gF (s .geo) ≡ s .geo .s
+  unfolding figures presentPage presentFiles
+  sums =
+      omega
+      (arith, free-waiting (presentPage s (sec work)) (cutPage s (sec work)) (alike s work F), view-space (s .geo) (s .c .0) tp work (F .shape) (F .sized) U)
 
   session-lists : (lines : List Line) → length (shownIn (Open s) work) ≤ length lines
       → list (Open s) work lines ≡ record { answer = done (length (shownIn (Open s) work)); lines = presentFiles s (sec work) ++ drop (length (shownIn (Open s) work)) lines }
   unfolding presentFiles shownIn sessionFiles
   session-lists lines h = list-is lines ∙ view-list (s .geo) (s .c .0) tp (tableOf (s .geo) (sec work)) work (F .shape) (F .sized) U (F .alone) lines h
 
-  session-frees : (free (Open s) work .number ≡ 0) × (free (Open s) work .count + sectorsOf (presentFiles s (sec work)) + gF (s .geo) ≡ s .geo .s)
-  unfolding done
-  session-frees = rw free-is (refl, sums)
+  session-frees : (free (Open s) work .number ≡ 0)
+      × (free (Open s) work .free + free (Open s) work .waiting + sectorsOf (presentFiles s (sec work)) + gF (s .geo) ≡ s .geo .s)
+  session-frees = rw free-is (unfold figures in refl, sums)
 
   pub session-shows : SessionShows s work
   session-shows =

@@ -23,16 +23,18 @@ use Rattle.card.specs.Reading.{filesShown, read, readList}
 use Rattle.session.specs.declared.Opened.{Opened}
 use Rattle.session.specs.declared.Session.{Session}
 use Rattle.session.specs.declared.Session.the-variants.{Open}
-use Rattle.session.specs.Views.{presentFiles}
 use Rattle.session.specs.Fits.{fits}
 use Rattle.session.specs.FitLaws.{fit-inv}
 use Rattle.store.specs.Steps.{setWord, tableSector, syncSteps}
 use Rattle.store.specs.Edit.{put}
+use Rattle.store.specs.declared.Room.{Room}
 use Rattle.store.specs.Look.{list, free}
 use Rattle.promises.specs.PlainList.{Item, items, lookup, With, shownBy, shownIn}
 use Rattle.promises.specs.PlainCalls.{Lines}
 use Rattle.promises.specs.ViewShows.{lines-length}
 use Rattle.promises.specs.ShownProved.{session-shows, card-shows}
+use Rattle.promises.specs.Free.{FreePromise}
+use Rattle.promises.specs.FreeProved.{free-promise}
 use Rattle.promises.specs.Answers.{put-answers}
 use Rattle.promises.specs.ReadsBy.{reads-shape, reads-sound}
 use Rattle.promises.specs.Demand.{card-possible}
@@ -72,7 +74,7 @@ stores-nothing h =
 -- ---- "one that makes up the free or file count"
 
 -- the least card, S = 7
-abbrev least : Geo
+abbrev pub least : Geo
 least = record { s = 7; t = 1; d = 1 }
 
 -- inside the limits
@@ -91,12 +93,17 @@ unfolding lookup
 has-some [] n d p e = never (cc)
 has-some (x ∷ l) n d p e = absurd (omega (arith, e))
 
--- a count that adds up to S is the count of this store's free
-pub free-true : (s : Opened) (work : List ℕ) → fits s work ≡ true → (k : ℕ) → k + sectorsOf (presentFiles s (sec work)) + gF (s .geo) ≡ s .geo .s
-    → k ≡ free (Open s) work .count
-free-true s work f k h = omega (arith, h, session-shows s work f .frees .1)
+-- a call that keeps what is promised of free gives this store's figures, both
+pub free-true : (f : Session → List ℕ → Room) → FreePromise f → (s : Opened) (work : List ℕ) → fits s work ≡ true → f (Open s) work ≡ free (Open s) work
+free-true f h s work fit =
+    let x = h s work fit in
+    let y = free-promise s work fit in
+    same-room (x .number ∙ sym (y .number)) (x .clears ∙ sym (y .clears)) (x .waits ∙ sym (y .waits))
+  where
+    same-room : {a b : Room} → a .number ≡ b .number → a .free ≡ b .free → a .waiting ≡ b .waiting → a ≡ b
+    same-room p q r = λ i. record { number = p i; free = q i; waiting = r i }
 
--- and so it is where a card is read
+-- where a card is read, a count that adds up to S is the clear bits shown
 pub read-free-true : (card : List ℕ) → shapeOk card ≡ true → sound card ≡ true
     → (k : ℕ) → k + sectorsOf (filesShown card) + gF (geoOf (sec card)) ≡ geoOf (sec card) .s → k ≡ read card .free
 read-free-true card p q k h = omega (arith, h, card-shows card p q .counts .4)
