@@ -10,6 +10,7 @@ use Rattle.card.specs.declared.Report.{Report}
 use Rattle.session.specs.declared.Opened.{Opened}
 use Rattle.session.specs.declared.Session.{Session}
 use Rattle.session.specs.declared.Session.the-variants.{Closed, Open}
+use Rattle.store.specs.declared.Room.{Room}
 use Rattle.store.specs.Mount.{Ended}
 
 -- "S sectors, ..; T table sectors, ..; D directory sectors", as three numbers
@@ -51,6 +52,14 @@ reportBytes r = wordBytes (r .c) ++ wordBytes (r .n) ++ wordBytes (r .files) ++ 
 -- what store_read leaves in its output: the report where the number is 0, else the bytes as lent
 unfoldable pub reported : Report → List ℕ → List ℕ
 reported r out = cond (eqb (r .number) 0) (reportBytes r) out
+
+-- free's two figures, free and waiting, as two words
+unfoldable pub roomBytes : Room → List ℕ
+roomBytes r = wordBytes (r .free) ++ wordBytes (r .waiting)
+
+-- what store_free leaves in its output: the figures where the number is 0, else the bytes as lent
+unfoldable pub roomed : Room → List ℕ → List ℕ
+roomed r out = cond (eqb (r .number) 0) (roomBytes r) out
 
 -- what store_sync leaves in the session's bytes: the session where the number is 0, else the bytes as lent
 unfoldable pub kept : Ended → List ℕ → List ℕ

@@ -17,11 +17,13 @@ use Rattle.card.specs.Plan.{Changed}
 use Rattle.session.specs.declared.Opened.{Opened}
 use Rattle.session.specs.declared.Session.{Session}
 use Rattle.session.specs.declared.Session.the-variants.{Closed, Open}
+use Rattle.store.specs.declared.Room.{Room}
 use Rattle.store.specs.Edit.{put}
+use Rattle.store.specs.Look.{free}
 use Rattle.store.specs.Mount.{Ended}
 use Rattle.store.specs.Sync.{land, sync}
 use Rattle.store.specs.CardLaws.{Ends}
-use Rattle.crossing.specs.Crossing.{geoWith, openedOf, sessionOf, decoded, stateOf, openedBytes, encoded, reportBytes, reported, kept}
+use Rattle.crossing.specs.Crossing.{geoWith, openedOf, sessionOf, decoded, stateOf, openedBytes, encoded, reportBytes, reported, roomBytes, roomed, kept}
 
 -- ---- a session from bytes
 
@@ -73,6 +75,10 @@ pub report-built : (r : Report) {t u v w : List ℕ} → t ≡ splice (replicate
     → v ≡ splice u 8 (wordBytes (r .files)) → w ≡ splice v 12 (wordBytes (r .free)) → w ≡ reportBytes r
 unfolding reportBytes splice over wordBytes
 report-built r e₁ e₂ e₃ e₄ = rw (e₄, e₃, e₂, e₁)
+
+pub room-built : (r : Room) {t u : List ℕ} → t ≡ splice (replicate 8 0) 0 (wordBytes (r .free)) → u ≡ splice t 4 (wordBytes (r .waiting)) → u ≡ roomBytes r
+unfolding roomBytes splice over wordBytes
+room-built r e₁ e₂ = rw (e₂, e₁)
 
 pub encoded-closed : (s : Session) → s ≡ Closed → replicate 24 0 ≡ encoded s
 unfolding encoded
@@ -135,3 +141,18 @@ unfolding reported
 read-through e out {r} {b} p n h =
     let m : eqb (e .number) 0 ≡ true = rw p at (eq-eqb (r .number) 0 n) in
     (ap (λ (x : Report). x .number) p, rw m (h ∙ ap (λ (x : Report). reportBytes x) p))
+
+module _ (b work out : List ℕ) {z : Session} {r : Room} (i : z ≡ decoded b) (p : r ≡ free z work) where
+  taken : r ≡ free (decoded b) work
+  taken = p ∙ ap (λ (y : Session). free y work) i
+
+  pub free-refused : r .number ≢ 0 → (r .number ≡ free (decoded b) work .number) × (out ≡ roomed (free (decoded b) work) out)
+  unfolding roomed
+  free-refused n =
+      let m : eqb (free (decoded b) work .number) 0 ≡ false = rw taken at (ne-eqb (r .number) 0 n) in (ap (λ (x : Room). x .number) taken, rw m)
+
+  pub free-through : {u : List ℕ} → r .number ≡ 0 → u ≡ roomBytes r → (r .number ≡ free (decoded b) work .number) × (u ≡ roomed (free (decoded b) work) out)
+  unfolding roomed
+  free-through n h =
+      let m : eqb (free (decoded b) work .number) 0 ≡ true = rw taken at (eq-eqb (r .number) 0 n) in
+      (ap (λ (x : Room). x .number) taken, rw m (h ∙ ap (λ (x : Room). roomBytes x) taken))

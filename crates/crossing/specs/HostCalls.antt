@@ -23,12 +23,13 @@ use Rattle.session.specs.declared.Session.{Session}
 use Rattle.session.specs.declared.Session.the-variants.{Closed, Open}
 use Rattle.session.specs.FitLaws.{Fit}
 use Rattle.store.specs.Edit.{put}
+use Rattle.store.specs.Look.{free}
 use Rattle.store.specs.Mount.{Ended, mountPlan, openedFrom, mountDone, mount}
 use Rattle.store.specs.Steps.{atTop}
 use Rattle.store.specs.Sync.{land, grown, syncDone, sync}
 use Rattle.store.specs.Plans.{both-num, mount-few, mount-good, mount-num, sync-live}
 use Rattle.promises.specs.Refusals.{refusals}
-use Rattle.crossing.specs.Crossing.{decoded, encoded, reported, kept}
+use Rattle.crossing.specs.Crossing.{decoded, encoded, reported, roomed, kept}
 use Rattle.crossing.specs.SessionBytes.{InWords, closed-back, opened-back, closed-zeros}
 
 -- ---- refusals
@@ -50,6 +51,10 @@ put-stays s work n d h = refusals .ofPut s work n d h .0
 
 pub land-stays : (s : Session) (card work : List ℕ) (i : ℕ) → land s card work i .answer .number ≢ 0 → land s card work i .image ≡ card
 land-stays s card work i h = refusals .ofLand s card work i h .0
+
+pub free-stays : (s : Session) (work out : List ℕ) → free s work .number ≢ 0 → roomed (free s work) out ≡ out
+unfolding roomed
+free-stays s work out n = rw (ne-eqb (free s work .number) 0 n)
 
 -- what store_sync leaves in the session's bytes
 kept-refused : (e : Ended) (b : List ℕ) → e .answer .number ≢ 0 → kept e b ≡ b

@@ -1,14 +1,15 @@
-// What crosses to a host: a session as 24 bytes, and what reading a card gives as 16.
+// What crosses to a host: a session as 24 bytes, what reading a card gives as 16, and what free gives as 8.
 ghost use mathlib.Core.Path.{_≡_};
 ghost use Prim.Native.Nat.{_+_, _*_};
 ghost use Rattle.words.specs.Bytes.{join};
-ghost use Rattle.crossing.specs.Crossing.{openedOf, sessionOf, decoded, stateOf, openedBytes, encoded, reportBytes};
+ghost use Rattle.crossing.specs.Crossing.{openedOf, sessionOf, decoded, stateOf, openedBytes, encoded, reportBytes, roomBytes};
 use card::Report;
 use counts::CrashCount;
 use counts::Geo;
 use counts::TxCount;
 use session::Opened;
 use session::Session;
+use store::Room;
 
 // The word of four bytes, least first.
 fn word(b0: u8, b1: u8, b2: u8, b3: u8) -> u32
@@ -106,5 +107,15 @@ pub fn report_bytes(r: Report) -> [u8; 16]
     words::put_word(&mut b, 4, r.n);
     words::put_word(&mut b, 8, r.files);
     words::put_word(&mut b, 12, r.free);
+    b
+}
+
+// The 8 bytes of free's two figures.
+pub fn room_bytes(r: Room) -> [u8; 8]
+    ensures { λ b. ⌜ b ≡ roomBytes r ⌝ }
+{
+    let mut b = [0u8; 8];
+    words::put_word(&mut b, 0, r.free);
+    words::put_word(&mut b, 4, r.waiting);
     b
 }

@@ -1,18 +1,20 @@
-// The store for a host: six functions on numbers and lent bytes, each answering a number of the table.
+// The store for a host: seven functions on numbers and lent bytes, each answering a number of the table.
 //
 // A slice crosses as a pointer and a length, an array `[u8; n]` as one pointer, a number as itself. No two lent buffers may overlap: a host can lend
 // one buffer twice, and what is promised leaves that out.
 //
 // A session crosses as 24 bytes, six words with the least byte first: state (0 closed, 1 open, 2 open and worn), S, T, D, c and t. The closed
 // session is 24 zeros. Any 24 bytes are taken: with state 0 they are the closed session whatever follows, and with a state above 2 an open session
-// that never fits. What reading a card gives crosses as 16 bytes, the words C, N, the file count and the clear bits.
+// that never fits. What reading a card gives crosses as 16 bytes, the words C, N, the file count and the clear bits; what free gives as 8, the words
+// free and waiting.
 ghost use mathlib.Core.Path.{_≡_};
 ghost use Rattle.card.specs.Make.{make};
 ghost use Rattle.card.specs.Reading.{read};
 ghost use Rattle.store.specs.Edit.{put};
+ghost use Rattle.store.specs.Look.{free};
 ghost use Rattle.store.specs.Mount.{mount};
 ghost use Rattle.store.specs.Sync.{land, sync};
-ghost use Rattle.crossing.specs.Crossing.{geoWith, decoded, encoded, reported, kept};
+ghost use Rattle.crossing.specs.Crossing.{geoWith, decoded, encoded, reported, roomed, kept};
 use cards::land;
 use cards::mount;
 use cards::sync;
@@ -20,8 +22,10 @@ use counts::Geo;
 use crossing::decoded;
 use crossing::encoded;
 use crossing::report_bytes;
+use crossing::room_bytes;
 use edits::put;
 use fresh::make;
+use looks::free;
 use reading::read;
 use sectors::Sector;
 
@@ -67,6 +71,21 @@ pub extern "C" fn store_put(session: &[u8; 24], work: &mut [u8], name: &[u8], co
     let s = decoded(b);
     let a = put(s, work, name, content);
     a.number
+}
+
+// "free 4, 2": the words free and waiting; on a refusal the output stays as lent.
+#[no_mangle]
+pub extern "C" fn store_free(session: &[u8; 24], work: &[u8], out: &mut [u8; 8]) -> u32
+    ensures { λ r. ⌜ (r ≡ free (decoded (now (session .entry))) (now (work .entry)) .number) × (now (out .exit) ≡ roomed (free (decoded (now (session .entry))) (now (work .entry))) (now (out .entry))) ⌝ }
+{
+    let b = *session;
+    let s = decoded(b);
+    let r = free(s, work);
+    if r.number != 0 {
+        return r.number;
+    }
+    *out = room_bytes(r);
+    r.number
 }
 
 // "sync 4, 1, 2, 9"; on a refusal the session's bytes stay as lent.

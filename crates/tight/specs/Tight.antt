@@ -45,6 +45,8 @@ use Rattle.host.proofs.store_mount.Kinds as store_mount·is
 use Rattle.host.proofs.store_mount.Reads as store_mount
 use Rattle.host.proofs.store_put.Kinds as store_put·is
 use Rattle.host.proofs.store_put.Reads as store_put
+use Rattle.host.proofs.store_free.Kinds as store_free·is
+use Rattle.host.proofs.store_free.Reads as store_free
 use Rattle.host.proofs.store_sync.Kinds as store_sync·is
 use Rattle.host.proofs.store_sync.Reads as store_sync
 use Rattle.host.proofs.store_land.Kinds as store_land·is
@@ -77,6 +79,7 @@ pub record Contracts : Type 0 where
   pub ofStoreRead : Tight 2 store_read·is.ps store_read·is.r store_read.Pre store_read.Post (λ κs s. now (s .1 .0) ∷ [])
   pub ofStoreMount : Tight 3 store_mount·is.ps store_mount·is.r store_mount.Pre store_mount.Post (λ κs s. now (s .1 .1 .0) ∷ now (s .0) ∷ now (s .1 .0) ∷ [])
   pub ofStorePut : Tight 4 store_put·is.ps store_put·is.r store_put.Pre store_put.Post (λ κs s. now (s .1 .0) ∷ [])
+  pub ofStoreFree : Tight 3 store_free·is.ps store_free·is.r store_free.Pre store_free.Post (λ κs s. now (s .1 .1 .0) ∷ [])
   pub ofStoreSync : Tight 3 store_sync·is.ps store_sync·is.r store_sync.Pre store_sync.Post (λ κs s. now (s .0) ∷ now (s .1 .0) ∷ now (s .1 .1 .0) ∷ [])
   pub ofStoreLand : Tight 3 store_land·is.ps store_land·is.r store_land.Pre store_land.Post (λ κs s. now (s .1 .0) ∷ [])
 
@@ -124,6 +127,7 @@ contracts =
       ofStoreRead = λ κs a. (tt, λ x y s t p q. two p q);
       ofStoreMount = λ κs a. (tt, λ x y s t p q. five p q);
       ofStorePut = λ κs a. (tt, λ x y s t p q. two p q);
+      ofStoreFree = λ κs a. (tt, λ x y s t p q. two p q);
       ofStoreSync = λ κs a. (tt, λ x y s t p q. five p q);
       ofStoreLand = λ κs a. (tt, λ x y s t p q. two p q);
     }
