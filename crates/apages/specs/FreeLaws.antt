@@ -6,10 +6,10 @@ use Prim.Native.Nat.{ℕ, zero, suc, _+_, _-_, _*_, _≤_, _<_}
 use native.Mathlib.Omega.{arith}
 use lib.ListN.{length, getD}
 use Rattle.sums.specs.Sums.{total, inRun}
-use Rattle.sums.specs.SumLaws.{place, total-add, total-run, total-same, total-zero, total-empty}
+use Rattle.sums.specs.SumLaws.{place, total-front, total-add, total-run, total-same, total-zero, total-empty}
 use Rattle.apages.specs.Bits.{bitAt, bitsOf, clearIn, clearBits}
 use Rattle.apages.specs.BitLaws.{bit-lt, bits-at, bits-length}
-use Rattle.apages.specs.RunLaws.{total-front, clearIn-total, clear-total, clear-most}
+use Rattle.apages.specs.RunLaws.{clearIn-total, clear-total, clear-most}
 use Rattle.apages.specs.Runs.{merge}
 use Rattle.apages.specs.LowestLaws.{merge-at, merge-length}
 use Rattle.apages.specs.MapLaws.{bits-over, clearIn-over}

@@ -17,7 +17,7 @@ use Rattle.session.specs.declared.Opened.{Opened}
 use Rattle.session.specs.declared.Session.{Session}
 use Rattle.session.specs.declared.Session.the-variants.{Open}
 use Rattle.session.specs.Views.{presentPage, cutPage, presentFiles}
-use Rattle.session.specs.Fits.{fits}
+use Rattle.session.specs.FitMeans.{Fits}
 use Rattle.store.specs.declared.Room.{Room}
 use Rattle.store.specs.Edit.{put}
 use Rattle.store.specs.Sync.{sync}
@@ -56,4 +56,4 @@ pub record FreeSays (free : Session → List ℕ → Room) (s : Opened) (work : 
       → (put (Open s) work n d .answer .number ≡ 8) ↔ (free (Open s) work .free ≡ 0)
 
 abbrev pub FreePromise : (Session → List ℕ → Room) → Type 0
-FreePromise free = (s : Opened) (work : List ℕ) → fits s work ≡ true → FreeSays free s work
+FreePromise free = (s : Opened) (work : List ℕ) → Fits s work → FreeSays free s work

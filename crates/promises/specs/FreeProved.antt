@@ -17,6 +17,7 @@ use Rattle.session.specs.declared.Session.the-variants.{Open}
 use Rattle.session.specs.Views.{presentPage, cutPage}
 use Rattle.session.specs.Fits.{fits}
 use Rattle.session.specs.FitLaws.{Fit, fit-inv, present-live}
+use Rattle.session.specs.FitMeansProved.{fits-mean}
 use Rattle.store.specs.declared.Room.{Room}
 use Rattle.store.specs.Steps.{setWord, tableSector, atTop, syncWork}
 use Rattle.store.specs.Mount.{Ended}
@@ -24,7 +25,7 @@ use Rattle.store.specs.Sync.{grown, syncDone, sync}
 use Rattle.store.specs.Plans.{both-num, sync-live}
 use Rattle.store.specs.Look.{figures, free}
 use Rattle.store.specs.RoomLaws.{alike}
-use Rattle.promises.specs.ShownProved.{free-is, all-show}
+use Rattle.promises.specs.ShownProved.{free-is, session-shows}
 use Rattle.promises.specs.Ready.{tpOf, pres}
 use Rattle.promises.specs.Synced.{sync-other, sync-table, room}
 use Rattle.promises.specs.FitCalm.{rest-map, rest-cut}
@@ -76,10 +77,10 @@ module _ (s : Opened) (work : List ℕ) (fit : fits s work ≡ true) where
   unfolding figures
   free-says =
       record {
-        number = all-show .0 s work fit .frees .0;
+        number = session-shows s work fit .frees .0;
         clears = rw (free-is s work fit) (free-count s work fit);
         waits = rw (free-is s work fit) (waiting-count s work fit);
-        sum = all-show .0 s work fit .frees .1;
+        sum = session-shows s work fit .frees .1;
         synced = releases;
         worn = λ w. rw (free-is s work fit) (worn-none s work fit w);
         short = λ n d w g e. rw (free-is s work fit) (short-8 s work fit n d w g e);
@@ -87,4 +88,4 @@ module _ (s : Opened) (work : List ℕ) (fit : fits s work ≡ true) where
       }
 
 pub free-promise : FreePromise free
-free-promise = free-says
+free-promise s work f = free-says s work (fits-mean s work .1 f)

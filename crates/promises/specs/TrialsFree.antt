@@ -17,6 +17,7 @@ use Rattle.session.specs.declared.Session.{Session}
 use Rattle.session.specs.declared.Session.the-variants.{Closed, Open}
 use Rattle.session.specs.Views.{presentPage, cutPage}
 use Rattle.session.specs.Fits.{fits}
+use Rattle.session.specs.FitMeansProved.{fits-mean}
 use Rattle.store.specs.declared.Room.{Room}
 use Rattle.store.specs.Steps.{mountSteps, syncWork}
 use Rattle.store.specs.Edit.{placeIn, putWork, put, removeWork}
@@ -60,10 +61,10 @@ removed-room = refl
 -- what any call that keeps the promise gives there
 module _ (f : Session → List ℕ → Room) (h : FreePromise f) where
   at-start : f (Open (leastAt 1)) start ≡ record { number = 0; free = 1; waiting = 0 }
-  at-start = free-true f h (leastAt 1) start start-fits ∙ free-is (leastAt 1) start start-fits ∙ start-room
+  at-start = free-true f h (leastAt 1) start (fits-mean (leastAt 1) start .0 start-fits) ∙ free-is (leastAt 1) start start-fits ∙ start-room
 
   at-removed : f (Open (leastAt 2)) removed ≡ record { number = 0; free = 0; waiting = 1 }
-  at-removed = free-true f h (leastAt 2) removed removed-fits ∙ free-is (leastAt 2) removed removed-fits ∙ removed-room
+  at-removed = free-true f h (leastAt 2) removed (fits-mean (leastAt 2) removed .0 removed-fits) ∙ free-is (leastAt 2) removed removed-fits ∙ removed-room
 
 -- ---- "A fitter removed a table, read "free 40" and got 8 on the next put"
 
@@ -79,7 +80,7 @@ place-b = refl
 -- none is free: 8
 pub next-put : put (Open (leastAt 2)) removed b seven .answer .number ≡ 8
 next-put =
-    free-promise (leastAt 2) removed removed-fits .full b seven refl (name-means b .0 good-b) (an-entry (leastAt 2) removed b 1 place-b) (omega arith) (omega arith) .1
+    free-promise (leastAt 2) removed (fits-mean (leastAt 2) removed .0 removed-fits) .full b seven refl (name-means b .0 good-b) (an-entry (leastAt 2) removed b 1 place-b) (omega arith) (omega arith) .1
     (ap (λ (r : Room). r .free) (at-removed free free-promise))
 
 -- ---- wrong figures
@@ -96,7 +97,7 @@ present-reads = refl
 -- it reads 1, and the next put gives 8
 pub present-only : ¬ FreePromise presentOnly
 present-only h =
-    let z = h (leastAt 2) removed removed-fits .full b seven refl (name-means b .0 good-b) (an-entry (leastAt 2) removed b 1 place-b) (omega arith) (omega arith) .0 next-put in
+    let z = h (leastAt 2) removed (fits-mean (leastAt 2) removed .0 removed-fits) .full b seven refl (name-means b .0 good-b) (an-entry (leastAt 2) removed b 1 place-b) (omega arith) (omega arith) .0 next-put in
     absurd (omega (arith, z, present-reads))
 
 -- waiting as the bits that the cut view has set

@@ -24,6 +24,7 @@ use Rattle.session.specs.declared.Opened.{Opened}
 use Rattle.session.specs.declared.Session.{Session}
 use Rattle.session.specs.declared.Session.the-variants.{Open}
 use Rattle.session.specs.Fits.{fits}
+use Rattle.session.specs.FitMeans.{Fits}
 use Rattle.session.specs.FitLaws.{fit-inv}
 use Rattle.store.specs.Steps.{setWord, tableSector, syncSteps}
 use Rattle.store.specs.Edit.{put}
@@ -94,7 +95,7 @@ has-some [] n d p e = never (cc)
 has-some (x ∷ l) n d p e = absurd (omega (arith, e))
 
 -- a call that keeps what is promised of free gives this store's figures, both
-pub free-true : (f : Session → List ℕ → Room) → FreePromise f → (s : Opened) (work : List ℕ) → fits s work ≡ true → f (Open s) work ≡ free (Open s) work
+pub free-true : (f : Session → List ℕ → Room) → FreePromise f → (s : Opened) (work : List ℕ) → Fits s work → f (Open s) work ≡ free (Open s) work
 free-true f h s work fit =
     let x = h s work fit in
     let y = free-promise s work fit in

@@ -54,8 +54,8 @@ pub record LooksAs (s : Opened) (work : List ℕ) (m : List Item) : Type 0 where
   pub gets : (n out : List ℕ) → GetsAs m n out (get (Open s) work n out)
   pub lists : (lines : List Line) → ListsAs m lines (list (Open s) work lines)
   pub number : free (Open s) work .number ≡ 0
-  -- "free sectors, sectors of present files and F add up to S"
-  pub frees : free (Open s) work .count + sectorsIn m + gF (s .geo) ≡ s .geo .s
+  -- "Free, waiting, sectors of present files and F add up to S"
+  pub frees : free (Open s) work .free + free (Open s) work .waiting + sectorsIn m + gF (s .geo) ≡ s .geo .s
 
 -- ---- demand 3, joined with the reading calls: after any history and any cut they answer from the files of the latest moment, or, inside a sync or
 -- unmount, from those that the session showed at its start
