@@ -1,49 +1,36 @@
--- A figure of two pages, sector by sector, and of two maps, page by page: a loop's start, a turn and its end. Assumes nothing.
-use mathlib.Core.Path.{_≡_, refl, sym, ap, _∙_}
-use mathlib.Core.Logic.{_≢_}
+-- Both figures of two pages by their ones, and a figure of two maps page by page: the loop's start, a turn and its end. Assumes nothing.
+use mathlib.Core.Path.{_≡_, sym, _∙_}
 use mathlib.Core.List.{List, [], _++_}
-use Prim.Native.Nat.{ℕ, zero, suc, _+_, _-_, _*_, _≤_, _<_}
+use Prim.Native.Nat.{ℕ, suc, _+_, _-_, _*_, _≤_, _<_}
 use native.Mathlib.Numerals.{add-one}
 use native.Mathlib.Omega.{arith}
 use lib.ListN.{length}
-use Rattle.sums.specs.Sums.{total}
-use Rattle.sums.specs.SumLaws.{total-more}
 use Rattle.sectors.specs.Sectors.{sec}
 use Rattle.sectors.specs.SectorLaws.{sec-length}
 use Rattle.counts.specs.declared.Geo.{Geo}
 use Rattle.counts.specs.Geometry.{gP}
-use Rattle.apages.specs.Bits.{bitAt}
+use Rattle.apages.specs.Either.{either, free-ones, waiting-ones}
+use Rattle.apages.specs.Ones.{setBits}
 use Rattle.apages.specs.Free.{freeIn, waitingIn}
-use Rattle.apages.specs.FreeLaws.{freeAt, waitsAt, free-total, waiting-total, free-most, waiting-most}
+use Rattle.apages.specs.FreeLaws.{free-most, waiting-most}
 use Rattle.apages.specs.Index.{groupOf, indexIn, shownPage, pageAt, mapFrom, pageIn}
 use Rattle.figures.specs.declared.Figures.{Figures}
 
 pub both-figures : {f w m n : ℕ} → f ≡ m → w ≡ n → _≡_ {A = Figures} (record { free = f; waiting = w }) (record { free = m; waiting = n })
 both-figures e h = rw (e, h)
 
--- ---- sector by sector
+-- ---- a page
 
--- a bit that counts where the first is clear
-pub waits-clear : (x y : ℕ) → x ≡ 0 → y ≡ (1 - x) * y
-waits-clear x y e = rw e (omega arith)
+-- by the ones of both pages taken together, and those of the first
+module _ (p q : List ℕ) (alike : length q ≡ length p) {busy own : ℕ} (eb : busy ≡ setBits (either p q)) (eo : own ≡ setBits p) where
+  pub busy-most : busy ≤ 8 * length p
+  busy-most = omega (arith, free-ones p q (sym alike))
 
-pub waits-set : (x y : ℕ) → x ≢ 0 → 0 ≡ (1 - x) * y
-waits-set zero y h = absurd (h refl)
-waits-set (suc x) y h = let z : 1 - suc x ≡ 0 = omega arith in rw z (omega arith)
+  pub own-most : own ≤ busy
+  own-most = omega (arith, waiting-ones p q (sym alike))
 
-module _ (p q : List ℕ) (n r : ℕ) {x y c : ℕ} (ex : x ≡ bitAt p n) (ey : y ≡ bitAt q n) where
-  pub free-turn : c ≡ 1 - (x + y) → r ≡ total (freeAt p q) n → r + c ≡ total (freeAt p q) (n + 1)
-  unfolding freeAt
-  free-turn e h = let f : c ≡ freeAt p q n = e ∙ rw (ex, ey) in omega (arith, f, h, total-more (freeAt p q) n)
-
-  pub waits-turn : c ≡ (1 - x) * y → r ≡ total (waitsAt p q) n → r + c ≡ total (waitsAt p q) (n + 1)
-  unfolding waitsAt
-  waits-turn e h = let f : c ≡ waitsAt p q n = e ∙ rw (ex, ey) in omega (arith, f, h, total-more (waitsAt p q) n)
-
-pub figures-end : (p q : List ℕ) (n : ℕ) {f w : ℕ} → length q ≡ length p → n ≡ 8 * length p → f ≡ total (freeAt p q) n → w ≡ total (waitsAt p q) n
-    → _≡_ {A = Figures} (record { free = f; waiting = w }) (record { free = freeIn p q; waiting = waitingIn p q })
-figures-end p q n alike all ef ew =
-    both-figures (ef ∙ ap (total (freeAt p q)) all ∙ sym (free-total p q (sym alike))) (ew ∙ ap (total (waitsAt p q)) all ∙ sym (waiting-total p q (sym alike)))
+  pub by-ones : _≡_ {A = Figures} (record { free = 8 * length p - busy; waiting = busy - own }) (record { free = freeIn p q; waiting = waitingIn p q })
+  by-ones = both-figures (omega (arith, free-ones p q (sym alike))) (omega (arith, waiting-ones p q (sym alike)))
 
 -- ---- page by page
 

@@ -1,6 +1,6 @@
 // Free and waiting: both figures of two views' maps, counted page by page.
 ghost use mathlib.Core.Path.{_≡_};
-ghost use Prim.Native.Nat.{_+_, _-_, _*_, _≤_, _<_};
+ghost use Prim.Native.Nat.{_+_, _*_, _%_, _≤_};
 ghost use lib.ListN.{length};
 ghost use Rattle.sectors.specs.Sectors.{sec};
 ghost use Rattle.counts.specs.Stamps.{tableIn};
@@ -8,7 +8,6 @@ ghost use Rattle.counts.specs.TableLaws.{LaidOut};
 ghost use Rattle.apages.specs.Free.{freeIn, waitingIn};
 ghost use Rattle.apages.specs.Index.{pageIn};
 ghost use Rattle.card.specs.ViewLaws.{PairIn};
-use apages::bit;
 use counts::Geo;
 use counts::View;
 use files::page_at;
@@ -20,38 +19,18 @@ pub struct Figures {
     pub waiting: u32,
 }
 
-// 1 where both bits are clear, else 0.
-fn both_clear(x: u8, y: u8) -> u32
-    requires { ⌜ (x < 2) × (y < 2) ⌝ }
-    ensures { λ r. ⌜ (r ≡ 1 - (x + y)) × (r < 2) ⌝ }
-{
-    if x + y == 0 { 1 } else { 0 }
-}
-
-// 1 where the first bit is clear and the second one set, else 0.
-fn first_clear(x: u8, y: u8) -> u32
-    requires { ⌜ y < 2 ⌝ }
-    ensures { λ r. ⌜ (r ≡ (1 - x) * y) × (r < 2) ⌝ }
-{
-    if x == 0 { y as u32 } else { 0 }
-}
-
-// Both figures of two pages.
+// Both figures of two pages, from the ones of their words: free has a bit in neither, waiting in the second alone.
 fn count(p: &[u8], q: &[u8]) -> Figures
-    requires { ⌜ (length (now p) ≤ 512) × (length (now q) ≡ length (now p)) ⌝ }
+    requires { ⌜ (length (now p) % 8 ≡ 0) × (length (now p) ≤ 512) × (length (now q) ≡ length (now p)) ⌝ }
     ensures { λ r. ⌜ r ≡ record { free = freeIn (now (p .entry)) (now (q .entry)); waiting = waitingIn (now (p .entry)) (now (q .entry)) } ⌝ }
 {
-    let mut n = 0;
-    let mut free: u32 = 0;
-    let mut waiting: u32 = 0;
-    while n < 8 * p.len() {
-        let x = bit(p, n);
-        let y = bit(q, n);
-        free += both_clear(x, y);
-        waiting += first_clear(x, y);
-        n += 1;
+    let busy = ones::either_set(p, q);
+    let own = ones::set_bits(p);
+    let free = 8 * (p.len() as u32) - busy;
+    Figures {
+        free,
+        waiting: busy - own,
     }
-    Figures { free, waiting }
 }
 
 // Both figures of the pages in two sectors.

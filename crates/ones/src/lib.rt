@@ -4,6 +4,7 @@ ghost use mathlib.Core.Bool.{true};
 ghost use Prim.Native.Nat.{_+_, _*_, _%_, _≤_, _<_};
 ghost use lib.ListN.{length};
 ghost use Rattle.apages.specs.Bits.{bitAt, clearBits};
+ghost use Rattle.apages.specs.Either.{either};
 ghost use Rattle.apages.specs.Ones.{word64At, onesOf, setBits, allSet};
 
 // ---- counted
@@ -34,6 +35,20 @@ pub fn set_bits(p: &[u8]) -> u32
     let mut at = 0;
     while at < p.len() {
         sum += ones_of(word64(p, at));
+        at += 8;
+    }
+    sum
+}
+
+// How many bits are set in one of two pages, or in both.
+pub fn either_set(p: &[u8], q: &[u8]) -> u32
+    requires { ⌜ (length (now p) % 8 ≡ 0) × (length (now p) ≤ 512) × (length (now q) ≡ length (now p)) ⌝ }
+    ensures { λ r. ⌜ r ≡ setBits (either (now (p .entry)) (now (q .entry))) ⌝ }
+{
+    let mut sum: u32 = 0;
+    let mut at = 0;
+    while at < p.len() {
+        sum += ones_of(word64(p, at) | word64(q, at));
         at += 8;
     }
     sum
