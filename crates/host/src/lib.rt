@@ -80,12 +80,12 @@ pub extern "C" fn store_free(session: &[u8; 24], work: &[u8], out: &mut [u8; 8])
 {
     let b = *session;
     let s = decoded(b);
-    let r = free(s, work);
-    if r.number != 0 {
-        return r.number;
+    let f = free(s, work);
+    if f.number != 0 {
+        return f.number;
     }
-    *out = room_bytes(r);
-    r.number
+    *out = room_bytes(f);
+    f.number
 }
 
 // "sync 4, 1, 2, 9"; on a refusal the session's bytes stay as lent.
