@@ -8,7 +8,9 @@ use borrow.Author.Tests.{eq-eqb}
 use lib.ListN.{length, getD, set}
 use Rattle.words.specs.Lists.{part, setPart}
 use Rattle.words.specs.BoolLaws.{join}
+use Rattle.words.specs.SpliceLaws.{splice-own}
 use Rattle.sectors.specs.Sectors.{sec, setSec}
+use Rattle.sectors.specs.SectorLaws.{setSec-own}
 use Rattle.sectors.specs.FlatLaws.{sec-in}
 use Rattle.counts.specs.declared.Geo.{Geo}
 use Rattle.counts.specs.declared.Stamp.{Stamp}
@@ -21,7 +23,7 @@ use Rattle.apages.specs.declared.Index.{Index}
 use Rattle.apages.specs.Bits.{setRun}
 use Rattle.apages.specs.RunLaws.{setRun-length}
 use Rattle.apages.specs.Index.{indexOf, groupBytes, groupOf, indexIn, pageAt, changedIndex, pageBefore, changedRun, changeRun}
-use Rattle.apages.specs.PageLaws.{splice-own, setSec-own, setSec-twice}
+use Rattle.apages.specs.PageLaws.{setSec-twice}
 use Rattle.apages.specs.FrameLaws.{bits-page, group-here}
 use Rattle.apages.specs.IndexViews.{before-shown, between, read-back}
 use Rattle.apages.specs.Remapped.{Paired, paired-wide}

@@ -8,11 +8,10 @@ use native.Mathlib.Decide.{ℕ-discrete}
 use borrow.Author.Tests.{ltb-true}
 use lib.ListN.{length}
 use Rattle.sectors.specs.Sectors.{sec, setSec}
-use Rattle.sectors.specs.SectorLaws.{setSec-length}
+use Rattle.sectors.specs.SectorLaws.{setSec-length, setSec-own}
 use Rattle.sectors.specs.FlatLaws.{sec-in, set-here, set-there}
 use Rattle.counts.specs.declared.Geo.{Geo}
 use Rattle.counts.specs.Geometry.{geoOk, geoOf}
-use Rattle.apages.specs.PageLaws.{setSec-own}
 use Rattle.card.specs.Plan.{Plan, doIt, ended, refused, done, Changed}
 use Rattle.card.specs.PlanLaws.{guard-inv, Num, go!, guard-num, passing}
 use Rattle.card.specs.Sound.{shapeOk, sound}

@@ -8,6 +8,7 @@ pub mod EditLaws
 pub mod WriteLaws
 pub mod ViewLaws
 pub mod SyncLaws
+pub mod SyncFewer
 pub mod PlaceLaws
 pub mod Plans
 pub mod RoomLaws

@@ -4,13 +4,13 @@ use mathlib.Core.List.{List, []}
 use Prim.Native.Nat.{ℕ, _+_, _*_}
 use lib.ListN.{length}
 use lib.Dec.{ltb, eqb}
-use Rattle.sectors.specs.Sectors.{sec, setSec, applySteps}
+use Rattle.sectors.specs.Sectors.{sec, setSec, applySteps, writesIn}
 use Rattle.card.specs.Plan.{Plan, guard, ended, doIt, refused, done, Changed}
 use Rattle.session.specs.declared.Opened.{Opened}
 use Rattle.session.specs.declared.Session.{Session}
 use Rattle.session.specs.declared.Session.the-variants.{Closed, Open}
 use Rattle.session.specs.Fits.{fits}
-use Rattle.store.specs.Steps.{syncSteps, unmountSteps, syncWork, unmountWork, atTop}
+use Rattle.store.specs.Steps.{syncSteps, unmountSteps, unmountCount, syncWork, unmountWork, atTop}
 use Rattle.store.specs.Mount.{Ended}
 
 -- "In a session call 1 means only a card not of 512·S bytes by the session's own S"; then 2
@@ -29,9 +29,15 @@ unfoldable pub grown : Bool → Opened → Opened
 grown true s = record { geo = s .geo; c = s .c; t = s .t; worn = true }
 grown false s = record { geo = s .geo; c = s .c; t = record { 0 = s .t .0 + 1 }; worn = false }
 
+-- "and report how many they wrote"
 unfoldable pub syncDone : Opened → List ℕ → List ℕ → Ended
 syncDone s card work =
-    record { answer = done 0; session = Open (grown (atTop s) s); card = applySteps (syncSteps s work []) card; work = syncWork s work }
+    record {
+      answer = done (writesIn (syncSteps s card work []));
+      session = Open (grown (atTop s) s);
+      card = applySteps (syncSteps s card work []) card;
+      work = syncWork s work;
+    }
 
 -- "sync 4, 1, 2, 9"
 unfoldable pub sync : Session → List ℕ → List ℕ → Ended
@@ -44,7 +50,7 @@ sync (Open s) card work =
 -- "The session is closed"
 unfoldable pub unmountDone : Opened → List ℕ → List ℕ → Ended
 unmountDone s card work =
-    record { answer = done 0; session = Closed; card = applySteps (unmountSteps s work) card; work = unmountWork s work }
+    record { answer = done (unmountCount s card work); session = Closed; card = applySteps (unmountSteps s card work) card; work = unmountWork s work }
 
 -- "unmount 4, 1, 2"
 unfoldable pub unmount : Session → List ℕ → List ℕ → Ended

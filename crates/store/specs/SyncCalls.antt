@@ -4,7 +4,7 @@ use mathlib.Core.Bool.{true, false, not}
 use mathlib.Core.List.{List, []}
 use Prim.Native.Nat.{ℕ, _*_}
 use lib.ListN.{length}
-use Rattle.sectors.specs.Sectors.{applySteps}
+use Rattle.sectors.specs.Sectors.{applySteps, writesIn}
 use Rattle.card.specs.declared.Answer.{Answer}
 use Rattle.card.specs.Plan.{Plan, refuse, doIt, guard, ended, refused, done}
 use Rattle.card.specs.PlanLaws.{guard-no, guard-yes}
@@ -12,7 +12,7 @@ use Rattle.session.specs.declared.Opened.{Opened}
 use Rattle.session.specs.declared.Session.{Session}
 use Rattle.session.specs.declared.Session.the-variants.{Closed, Open}
 use Rattle.session.specs.Fits.{fits}
-use Rattle.store.specs.Steps.{syncSteps, unmountSteps, syncWork, unmountWork, atTop}
+use Rattle.store.specs.Steps.{syncSteps, unmountSteps, unmountCount, syncWork, unmountWork, atTop}
 use Rattle.store.specs.Mount.{Ended}
 use Rattle.store.specs.Sync.{bothPlan, grown, syncDone, sync, unmountDone, unmount}
 use Rattle.store.specs.CardLaws.{Ends, ends, both-1, both-2, both-ok}
@@ -45,8 +45,8 @@ module _ (s : Opened) (card work : List ℕ) {o : Session} (eo : o ≡ Open s) w
   unfolding guard
   sync-9 d z w = sync-stop (both-ok s card work _ d z ∙ guard-no 9 _ (ap not w))
 
-  pub sync-done : {a : Answer} {p : Session} {n : Opened} {x y : List ℕ} → length card ≡ 512 * s .geo .s → fits s work ≡ true → s .worn ≡ false → a ≡ done 0 → p ≡ Open n
-      → (n ≡ grown (atTop s) s) × ((x ≡ applySteps (syncSteps s work []) card) × (y ≡ syncWork s work)) → Ends (sync o card work) a p x y
+  pub sync-done : {a : Answer} {p : Session} {n : Opened} {x y : List ℕ} → length card ≡ 512 * s .geo .s → fits s work ≡ true → s .worn ≡ false → a ≡ done (writesIn (syncSteps s card work [])) → p ≡ Open n
+      → (n ≡ grown (atTop s) s) × ((x ≡ applySteps (syncSteps s card work []) card) × (y ≡ syncWork s work)) → Ends (sync o card work) a p x y
   unfolding guard ended syncDone
   sync-done d z w f g h =
       ends _ (sync-by (both-ok s card work _ d z ∙ guard-yes 9 _ (ap not w))) f (g ∙ ap Open (h .0)) (h .1 .0) (h .1 .1)
@@ -75,7 +75,7 @@ module _ (s : Opened) (card work : List ℕ) {o : Session} (eo : o ≡ Open s) w
   pub unmount-2 : {a : Answer} {p : Session} → length card ≡ 512 * s .geo .s → fits s work ≡ false → (a ≡ refused 2) × (p ≡ Open s) → Ends (unmount o card work) a p card work
   unmount-2 d z = unmount-stop (both-2 s card work _ d z)
 
-  pub unmount-done : {a : Answer} {p : Session} {x y : List ℕ} → length card ≡ 512 * s .geo .s → fits s work ≡ true → a ≡ done 0 → p ≡ Closed
-      → (x ≡ applySteps (unmountSteps s work) card) × (y ≡ unmountWork s work) → Ends (unmount o card work) a p x y
+  pub unmount-done : {a : Answer} {p : Session} {x y : List ℕ} → length card ≡ 512 * s .geo .s → fits s work ≡ true → a ≡ done (unmountCount s card work) → p ≡ Closed
+      → (x ≡ applySteps (unmountSteps s card work) card) × (y ≡ unmountWork s work) → Ends (unmount o card work) a p x y
   unfolding ended unmountDone
   unmount-done d z f g h = ends _ (unmount-by (both-ok s card work _ d z)) f g (h .0) (h .1)
