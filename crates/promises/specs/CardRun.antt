@@ -1,12 +1,15 @@
 -- The card as the steps of a call leave it, one by one, is one of the cards that a cut there may leave. Assumes nothing.
 use mathlib.Core.Path.{_≡_, refl, sym, _∙_, subst}
-use mathlib.Core.Bool.{false}
+use mathlib.Core.Bool.{Bool, true, false}
+use mathlib.Core.Logic.{_⊎_, inl, inr, ⊎-elim, _≢_}
 use mathlib.Core.List.{List, [], _∷_, List·Memᴰ, List·Memᴰ·head}
 use Prim.Native.Nat.{ℕ, zero, suc, _+_, _-_, _*_, _≤_, _<_}
 use native.Mathlib.Omega.{arith}
 use native.Mathlib.Decide.{ℕ-discrete, decLe}
 use lib.ListN.{length, take}
-use Rattle.sectors.specs.Sectors.{sec, setSec, Step, write, settle, applySteps, copySteps}
+use Rattle.sectors.specs.Sectors.{sec, setSec, Step, write, settle, applySteps, unless, diffSteps}
+use Rattle.words.specs.Lists.{eqList}
+use Rattle.words.specs.EveryMore.{eqList-eq}
 use Rattle.sectors.specs.SectorLaws.{setSec-length}
 use Rattle.sectors.specs.FlatLaws.{sec-in, set-here, set-there, image-same}
 use Rattle.counts.specs.declared.Geo.{Geo}
@@ -58,25 +61,36 @@ module _ (S : ℕ) where
   can-settle r p card C f zero = C
   can-settle r p card C f (suc n) = f n
 
+  -- a step that may be left out
+  can-unless : (b : Bool) (i : ℕ) (s : List ℕ) (r : List Step) (p : Pending) (card : List ℕ) → i < S → length s ≡ 512 → Can S p card → (b ≡ true → sec card i ≡ s)
+      → ((p′ : Pending) (card′ : List ℕ) → Can S p′ card′ → (p′ ≡ p) ⊎ (p′ ≡ written i s p) → sec card′ i ≡ s → ((j : ℕ) → j ≢ i → sec card′ j ≡ sec card j) → CanAll S r p′ card′)
+      → CanAll S (unless b (write i s) r) p card
+  unfolding unless
+  can-unless true i s r p card h m C e f = f p card C (inl refl) (e refl) (λ j o. refl)
+  can-unless false i s r p card h m C e f =
+      can-write i s r p card h m C (λ C′. f (written i s p) (setSec card i s) C′ (inr refl) (set-here S card s i (C .sized) h m) (λ j o. set-there S card s i (C .sized) h m j o))
+
   -- copies of the working image
-  pub can-copy : (work : List ℕ) → length work ≡ 512 * S → (n i : ℕ) (r : List Step) (p : Pending) (card : List ℕ) → i + n ≤ S → Can S p card → Top work p
+  pub can-copy : (card₀ work : List ℕ) → length work ≡ 512 * S → (n i : ℕ) (r : List Step) (p : Pending) (card : List ℕ) → i + n ≤ S → Can S p card → Top work p
+      → ((j : ℕ) → i ≤ j → sec card j ≡ sec card₀ j)
       → ((p′ : Pending) (card′ : List ℕ) → Can S p′ card′ → Top work p′ → ((j : ℕ) → i ≤ j → j < i + n → sec card′ j ≡ sec work j)
       → ((j : ℕ) → ¬ ((i ≤ j) × (j < i + n)) → sec card′ j ≡ sec card j) → CanAll S r p′ card′)
-      → CanAll S (copySteps work i n r) p card
-  unfolding copySteps
-  can-copy work l zero i r p card h C t f = f p card C t (λ j lo hi. absurd (omega arith)) (λ j o. refl)
-  can-copy work l (suc n) i r p card h C t f =
+      → CanAll S (diffSteps card₀ work i n r) p card
+  unfolding diffSteps
+  can-copy card₀ work l zero i r p card h C t k f = f p card C t (λ j lo hi. absurd (omega arith)) (λ j o. refl)
+  can-copy card₀ work l (suc n) i r p card h C t k f =
       let m = sec-in work S i l (omega arith) in
-      can-write i (sec work i) (copySteps work (suc i) n r) p card (omega arith) m C
-      (λ C′. can-copy work l n (suc i) r (written i (sec work i) p) (setSec card i (sec work i)) (omega arith) C′ (top-written work p i t)
+      can-unless (eqList (sec card₀ i) (sec work i)) i (sec work i) (diffSteps card₀ work (suc i) n r) p card (omega arith) m C (λ q. k i (omega arith) ∙ eqList-eq _ _ q)
+      (λ p₁ c₁ C₁ e₁ h₁ o₁. can-copy card₀ work l n (suc i) r p₁ c₁ (omega arith) C₁ (⊎-elim (λ q. rw q t) (λ q. rw q (top-written work p i t)) e₁)
+      (λ j lo. o₁ j (omega arith) ∙ k j (omega arith))
       (λ p′ card′ C″ t′ here there.
-      f p′ card′ C″ t′ (λ j lo hi. go card′ m here there j lo hi (ℕ-discrete j i))
-      (λ j o. there j (λ q. o (omega (arith, q .0), omega (arith, q .1))) ∙ set-there S card _ i (C .sized) (omega arith) m j (λ q. o (omega (arith, q), omega (arith, q))))))
+      f p′ card′ C″ t′ (λ j lo hi. go card′ c₁ h₁ here there j lo hi (ℕ-discrete j i))
+      (λ j o. there j (λ q. o (omega (arith, q .0), omega (arith, q .1))) ∙ o₁ j (λ q. o (omega (arith, q), omega (arith, q))))))
     where
-      go : (card′ : List ℕ) → length (sec work i) ≡ 512 → ((j : ℕ) → suc i ≤ j → j < suc i + n → sec card′ j ≡ sec work j)
-          → ((j : ℕ) → ¬ ((suc i ≤ j) × (j < suc i + n)) → sec card′ j ≡ sec (setSec card i (sec work i)) j) → (j : ℕ) → i ≤ j → j < i + suc n → Dec (j ≡ i) → sec card′ j ≡ sec work j
-      go card′ m here there j lo hi (yes e) = rw e (there i (λ q. omega (arith, q .0)) ∙ set-here S card _ i (C .sized) (omega arith) m)
-      go card′ m here there j lo hi (no o) = here j (omega arith) (omega arith)
+      go : (card′ c₁ : List ℕ) → sec c₁ i ≡ sec work i → ((j : ℕ) → suc i ≤ j → j < suc i + n → sec card′ j ≡ sec work j)
+          → ((j : ℕ) → ¬ ((suc i ≤ j) × (j < suc i + n)) → sec card′ j ≡ sec c₁ j) → (j : ℕ) → i ≤ j → j < i + suc n → Dec (j ≡ i) → sec card′ j ≡ sec work j
+      go card′ c₁ h₁ here there j lo hi (yes e) = rw e (there i (λ q. omega (arith, q .0)) ∙ h₁)
+      go card′ c₁ h₁ here there j lo hi (no o) = here j (omega arith) (omega arith)
 
 -- ---- a sync
 
@@ -120,12 +134,12 @@ module _ (s : Opened) (card work : List ℕ) (p : Pending) (m : List Item) (V₀
       (subst (λ (x : Pending). CanAll (g .s) r x (setSec work ts (sec now ts))) (sym (table-lands s card work p m V₀ F live))
       (subst (λ (x : List ℕ). CanAll (g .s) r (settled now) x) (sym table-written) f))))))
 
-  pub sync-can : (r : List Step) → CanAll (g .s) r (settled now) now → CanAll (g .s) (syncSteps s work r) p card
+  pub sync-can : (r : List Step) → CanAll (g .s) r (settled now) now → CanAll (g .s) (syncSteps s card work r) p card
   unfolding syncSteps
   sync-can r f =
-      can-copy (g .s) work (F .sized) 1 0 _ p card (omega (arith, L .sLow, L .past, L .dir)) (record { sized = V₀ .sized; held = V₀ .may }) (V₀ .top)
+      can-copy (g .s) card work (F .sized) 1 0 _ p card (omega (arith, L .sLow, L .past, L .dir)) (record { sized = V₀ .sized; held = V₀ .may }) (V₀ .top) (λ j lo. refl)
       (λ p₁ c₁ C₁ t₁ here₁ there₁.
-      can-copy (g .s) work (F .sized) (g .s - g .t - 1) (g .t + 1) _ p₁ c₁ (omega (arith, L .sLow, L .past, L .dir)) C₁ t₁
+      can-copy (g .s) card work (F .sized) (g .s - g .t - 1) (g .t + 1) _ p₁ c₁ (omega (arith, L .sLow, L .past, L .dir)) C₁ t₁ (λ j lo. there₁ j (λ q. omega (arith, q .1)))
       (λ p₂ c₂ C₂ t₂ here₂ there₂.
       rest r f p₂ c₂ C₂ t₂
       (image-same c₂ work (g .s) (C₂ .sized) (F .sized)

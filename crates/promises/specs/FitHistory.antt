@@ -84,14 +84,14 @@ unfolding after stepped stepsOf syncsBy sync refused byNumber
 step-sync Closed card work p m h = h
 step-sync (Open s) card work p m h =
     by-plan (λ (r : Ended). r .answer .number) FitW (mk card work (Open s) p m) _ _
-    (λ r. mk (r .card) (r .work) (r .session) (play (byNumber (r .answer .number) (syncSteps s work []) []) p) (shownIn (Open s) work)) (λ k. refl)
+    (λ r. mk (r .card) (r .work) (r .session) (play (byNumber (r .answer .number) (syncSteps s card work []) []) p) (shownIn (Open s) work)) (λ k. refl)
     (both-num s card work (guard-num 8 _ (go! 0 0))) h
     (λ j a e. let (F, live) = sync-live s card work e in finish F live)
   where
     finish : Fit s work → s .worn ≡ false
         → FitW (byNumber (syncDone s card work .answer .number)
         (mk (syncDone s card work .card) (syncDone s card work .work) (syncDone s card work .session)
-        (play (byNumber (syncDone s card work .answer .number) (syncSteps s work []) []) p) (shownIn (Open s) work)) (mk card work (Open s) p m))
+        (play (byNumber (syncDone s card work .answer .number) (syncSteps s card work []) []) p) (shownIn (Open s) work)) (mk card work (Open s) p m))
     finish F live = unfold syncDone done byNumber in next-fits s work F live
 
 step-unmount : (s : Session) (card work : List ℕ) (p : Pending) (m : List Item) → FitOf s work → FitW (after unmountC (mk card work s p m))
@@ -99,7 +99,7 @@ unfolding after stepped stepsOf unmountsBy unmount unmountDone refused done byNu
 step-unmount Closed card work p m h = h
 step-unmount (Open s) card work p m h =
     by-plan (λ (r : Ended). r .answer .number) FitW (mk card work (Open s) p m) _ _
-    (λ r. mk (r .card) (r .work) (r .session) (play (byNumber (r .answer .number) (unmountSteps s work) []) p) (shownIn (Open s) work)) (λ k. refl)
+    (λ r. mk (r .card) (r .work) (r .session) (play (byNumber (r .answer .number) (unmountSteps s card work) []) p) (shownIn (Open s) work)) (λ k. refl)
     (both-num s card work (go! 0 0)) h (λ j a e. tt)
 
 mount-closed : (card work : List ℕ) (p : Pending) (m : List Item) → FitW (stepped (mk card work Closed p m) (mount card work) (stepsOf mountC (mk card work Closed p m)) (shownBy card))

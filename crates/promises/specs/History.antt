@@ -105,20 +105,20 @@ before (listC lines) w = w
 before freeC w = w
 
 -- the steps of an open session's sync and unmount
-unfoldable pub syncsBy : Session → List ℕ → List Step
-syncsBy Closed work = []
-syncsBy (Open s) work = syncSteps s work []
+unfoldable pub syncsBy : Session → List ℕ → List ℕ → List Step
+syncsBy Closed card work = []
+syncsBy (Open s) card work = syncSteps s card work []
 
-unfoldable pub unmountsBy : Session → List ℕ → List Step
-unmountsBy Closed work = []
-unmountsBy (Open s) work = unmountSteps s work
+unfoldable pub unmountsBy : Session → List ℕ → List ℕ → List Step
+unmountsBy Closed card work = []
+unmountsBy (Open s) card work = unmountSteps s card work
 
 -- the steps that a call takes on the card: none where it is refused, and only mount, sync and unmount take any
 unfoldable pub stepsOf : Call → World → List Step
 stepsOf (makeC g) w = []
 stepsOf mountC w = byNumber (mount (w .card) (w .work) .answer .number) (mountSteps (w .card)) []
-stepsOf syncC w = byNumber (sync (w .session) (w .card) (w .work) .answer .number) (syncsBy (w .session) (w .work)) []
-stepsOf unmountC w = byNumber (unmount (w .session) (w .card) (w .work) .answer .number) (unmountsBy (w .session) (w .work)) []
+stepsOf syncC w = byNumber (sync (w .session) (w .card) (w .work) .answer .number) (syncsBy (w .session) (w .card) (w .work)) []
+stepsOf unmountC w = byNumber (unmount (w .session) (w .card) (w .work) .answer .number) (unmountsBy (w .session) (w .card) (w .work)) []
 stepsOf (putC n d) w = []
 stepsOf (removeC n) w = []
 stepsOf (landC i) w = []

@@ -64,11 +64,14 @@ pub mod AlongProved
 pub mod CardRun
 pub mod Possible
 pub mod ReadsReads
+pub mod Fewer
+pub mod FewerProved
 pub mod TrialsCard
 pub mod TrialsRun
 pub mod Trials
 pub mod TrialsStore
 pub mod TrialsFree
+pub mod TrialsOrder
 pub mod TrialsSync
 pub mod TrialsTable
 pub mod TrialsBuild

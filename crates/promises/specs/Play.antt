@@ -1,5 +1,6 @@
 -- What each sector may hold, step by step through the writes of a call, and the card itself. Assumes nothing.
 use mathlib.Core.Path.{_≡_, refl, _∙_, fun-ext}
+use mathlib.Core.Bool.{Bool, true, false}
 use mathlib.Core.List.{List, [], _∷_, List·Memᴰ, List·Memᴰ·head, List·Memᴰ·tail}
 use mathlib.Core.Logic.{_⊎_, inl, inr, ⊎-elim, _≢_}
 use Prim.Native.Nat.{ℕ, zero, suc, _+_, _*_, _≤_, _<_}
@@ -7,7 +8,7 @@ use native.Mathlib.Omega.{arith}
 use native.Mathlib.Decide.{ℕ-discrete}
 use borrow.Author.Tests.{eq-eqb, ne-eqb}
 use lib.ListN.{length, take}
-use Rattle.sectors.specs.Sectors.{sec, setSec, Step, write, settle, applySteps, copySteps}
+use Rattle.sectors.specs.Sectors.{sec, setSec, Step, write, settle, applySteps, copySteps, unless, diffSteps}
 use Rattle.sectors.specs.SectorLaws.{setSec-length}
 use Rattle.sectors.specs.FlatLaws.{sec-in, set-here, set-there}
 use Rattle.promises.specs.History.{Pending, written, newest, play, settled}
@@ -75,18 +76,29 @@ top-written work p i h j = go (ℕ-discrete j i)
     go (yes e) = rw (e, written-here i (sec work i) p) (unfold newest in refl)
     go (no o) = rw (written-there i (sec work i) p j o) (h j)
 
--- copies of the working image, under an invariant I that they keep
-module _ (Q I : Pending → Type 0) (sub : (p : Pending) → I p → Q p) (work : List ℕ) (keep : (p : Pending) (i : ℕ) → I p → I (written i (sec work i) p)) where
-  pub every-copy : (n i : ℕ) (r : List Step) (p : Pending) → I p → Top work p → ((p′ : Pending) → I p′ → Top work p′ → Every Q r p′) → Every Q (copySteps work i n r) p
-  unfolding copySteps
+-- copies of the working image to a card, under an invariant I that they keep
+module _ (Q I : Pending → Type 0) (sub : (p : Pending) → I p → Q p) (card work : List ℕ) (keep : (p : Pending) (i : ℕ) → I p → I (written i (sec work i) p)) where
+  every-unless : (b : Bool) (i : ℕ) (s : List ℕ) (r : List Step) (p : Pending) → Q p → Every Q r p → Every Q r (written i s p) → Every Q (unless b (write i s) r) p
+  unfolding unless
+  every-unless true i s r p q x y = x
+  every-unless false i s r p q x y = every-write Q i s r p q y
+
+  play-unless : (b : Bool) (i : ℕ) (s : List ℕ) (r : List Step) (p p₂ : Pending) → play r p ≡ p₂ → play r (written i s p) ≡ p₂ → play (unless b (write i s) r) p ≡ p₂
+  unfolding unless play
+  play-unless true i s r p p₂ x y = x
+  play-unless false i s r p p₂ x y = y
+
+  pub every-copy : (n i : ℕ) (r : List Step) (p : Pending) → I p → Top work p → ((p′ : Pending) → I p′ → Top work p′ → Every Q r p′) → Every Q (diffSteps card work i n r) p
+  unfolding diffSteps
   every-copy zero i r p q h f = f p q h
   every-copy (suc n) i r p q h f =
-      every-write Q i (sec work i) (copySteps work (suc i) n r) p (sub p q) (every-copy n (suc i) r (written i (sec work i) p) (keep p i q) (top-written work p i h) f)
+      every-unless _ i (sec work i) (diffSteps card work (suc i) n r) p (sub p q) (every-copy n (suc i) r p q h f) (every-copy n (suc i) r (written i (sec work i) p) (keep p i q) (top-written work p i h) f)
 
-  pub play-copy : (n i : ℕ) (r : List Step) (p p₂ : Pending) → I p → Top work p → ((p′ : Pending) → I p′ → Top work p′ → play r p′ ≡ p₂) → play (copySteps work i n r) p ≡ p₂
-  unfolding copySteps play
+  pub play-copy : (n i : ℕ) (r : List Step) (p p₂ : Pending) → I p → Top work p → ((p′ : Pending) → I p′ → Top work p′ → play r p′ ≡ p₂) → play (diffSteps card work i n r) p ≡ p₂
+  unfolding diffSteps
   play-copy zero i r p p₂ q h f = f p q h
-  play-copy (suc n) i r p p₂ q h f = play-copy n (suc i) r (written i (sec work i) p) p₂ (keep p i q) (top-written work p i h) f
+  play-copy (suc n) i r p p₂ q h f =
+      play-unless _ i (sec work i) (diffSteps card work (suc i) n r) p p₂ (play-copy n (suc i) r p p₂ q h f) (play-copy n (suc i) r (written i (sec work i) p) p₂ (keep p i q) (top-written work p i h) f)
 
 -- all has landed
 pub landed : (work : List ℕ) (p : Pending) → Top work p → _≡_ {A = Pending} (λ j. newest (p j)) (settled work)

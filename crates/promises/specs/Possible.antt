@@ -99,16 +99,16 @@ sync-left : (s : Session) (card work : List ℕ) (p : Pending) (m : List Item) �
 unfolding stepsOf sync refused syncsBy byNumber
 sync-left Closed card work p m h = none card p (inv-left (mk card work Closed p m) h)
 sync-left (Open s) card work p m h =
-    steps-plan (λ (r : Ended). r .answer .number) (Lefts card p) _ _ (syncSteps s work []) (λ k. refl) (both-num s card work (guard-num 8 _ (go! 0 0)))
+    steps-plan (λ (r : Ended). r .answer .number) (Lefts card p) _ _ (syncSteps s card work []) (λ k. refl) (both-num s card work (guard-num 8 _ (go! 0 0)))
     (none card p (inv-left (mk card work (Open s) p m) h)) (λ j a e. let (F, live) = sync-live s card work e in finish F live)
   where
-    finish : Fit s work → s .worn ≡ false → Lefts card p (byNumber (syncDone s card work .answer .number) (syncSteps s work []) [])
+    finish : Fit s work → s .worn ≡ false → Lefts card p (byNumber (syncDone s card work .answer .number) (syncSteps s card work []) [])
     finish F live =
         unfold syncDone done byNumber in
-        lefts (s .geo .s) card p (syncSteps s work []) (sync-can s card work p m (to-live s (mk card work (Open s) p m) live h) F live [] (can-nil (s .geo .s) _ _ (now-can s work F live)))
+        lefts (s .geo .s) card p (syncSteps s card work []) (sync-can s card work p m (to-live s (mk card work (Open s) p m) live h) F live [] (can-nil (s .geo .s) _ _ (now-can s work F live)))
 
 unmount-can : (b : Bool) (s : Opened) (card work : List ℕ) (p : Pending) (m : List Item) → s .worn ≡ b → OpenInv b s (mk card work (Open s) p m) → Fit s work
-    → Left p (length card) card → Lefts card p (unmountStepsBy b s work)
+    → Left p (length card) card → Lefts card p (unmountStepsBy b s card work)
 unfolding unmountStepsBy
 unmount-can true s card work p m e W F l = none card p l
 unmount-can false s card work p m e V₀ F l = lefts (s .geo .s) card p _ (sync-can s card work p m V₀ F e _ (go (atTop s) refl))
@@ -127,10 +127,10 @@ unmount-left : (s : Session) (card work : List ℕ) (p : Pending) (m : List Item
 unfolding stepsOf unmount refused unmountsBy byNumber
 unmount-left Closed card work p m h = none card p (inv-left (mk card work Closed p m) h)
 unmount-left (Open s) card work p m h =
-    steps-plan (λ (r : Ended). r .answer .number) (Lefts card p) _ _ (unmountSteps s work) (λ k. refl) (both-num s card work (go! 0 0))
+    steps-plan (λ (r : Ended). r .answer .number) (Lefts card p) _ _ (unmountSteps s card work) (λ k. refl) (both-num s card work (go! 0 0))
     (none card p (inv-left (mk card work (Open s) p m) h)) (λ j a e. finish (fit-inv s work (both-inv s card work _ e .0)))
   where
-    finish : Fit s work → Lefts card p (byNumber (unmountDone s card work .answer .number) (unmountSteps s work) [])
+    finish : Fit s work → Lefts card p (byNumber (unmountDone s card work .answer .number) (unmountSteps s card work) [])
     finish F = unfold unmountDone unmountSteps done byNumber in unmount-can (s .worn) s card work p m refl h F (inv-left (mk card work (Open s) p m) h)
 
 -- ---- every call

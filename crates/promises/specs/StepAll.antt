@@ -81,7 +81,7 @@ not-top s h e = let q = eqb-false (s .t .0) maxTx e in omega arith
 
 sync-inv : (s : Opened) (card work : List ℕ) (p : Pending) (m : List Item) → Live s card work p m → Fit s work → s .worn ≡ false
     → InvOf (Open (grown (atTop s) s))
-    (mk (applySteps (syncSteps s work []) card) (setWord (s .c .0) (s .t .0) work) (Open (grown (atTop s) s)) (play (syncSteps s work []) p) (shownIn (Open s) work))
+    (mk (applySteps (syncSteps s card work []) card) (setWord (s .c .0) (s .t .0) work) (Open (grown (atTop s) s)) (play (syncSteps s card work []) p) (shownIn (Open s) work))
 sync-inv s card work p m V₀ F live = rw (sync-card s card work p m V₀ F live [], sync-play s card work p m V₀ F live []) (unfold applySteps play in go (atTop s) refl)
   where
     go : (b : Bool) → atTop s ≡ b
@@ -104,14 +104,14 @@ unfolding after stepped stepsOf syncsBy sync refused byNumber
 step-sync Closed card work p m h = h
 step-sync (Open s) card work p m h =
     by-plan (λ (r : Ended). r .answer .number) Inv (mk card work (Open s) p m) _ _
-    (λ r. mk (r .card) (r .work) (r .session) (play (byNumber (r .answer .number) (syncSteps s work []) []) p) (shownIn (Open s) work)) (λ k. refl)
+    (λ r. mk (r .card) (r .work) (r .session) (play (byNumber (r .answer .number) (syncSteps s card work []) []) p) (shownIn (Open s) work)) (λ k. refl)
     (both-num s card work (guard-num 8 _ (go! 0 0))) h
     (λ j a e. let (F, live) = sync-live s card work e in finish F live)
   where
     finish : Fit s work → s .worn ≡ false
         → Inv (byNumber (syncDone s card work .answer .number)
         (mk (syncDone s card work .card) (syncDone s card work .work) (syncDone s card work .session)
-        (play (byNumber (syncDone s card work .answer .number) (syncSteps s work []) []) p) (shownIn (Open s) work)) (mk card work (Open s) p m))
+        (play (byNumber (syncDone s card work .answer .number) (syncSteps s card work []) []) p) (shownIn (Open s) work)) (mk card work (Open s) p m))
     finish F live = unfold syncDone syncWork done byNumber in sync-inv s card work p m (to-live s (mk card work (Open s) p m) live h) F live
 
 -- ---- unmount
@@ -125,13 +125,13 @@ worn-shows s card work p m e F W = rw (present-worn s (sec work) e (fit-table (s
     open-files h = unfold filesIn in h
 
 unmount-rests : (b : Bool) (s : Opened) (card work : List ℕ) (p : Pending) (m : List Item) → s .worn ≡ b → OpenInv b s (mk card work (Open s) p m) → Fit s work
-    → AtRest (s .geo) (applySteps (unmountStepsBy b s work) card) (play (unmountStepsBy b s work) p) (shownIn (Open s) work)
+    → AtRest (s .geo) (applySteps (unmountStepsBy b s card work) card) (play (unmountStepsBy b s card work) p) (shownIn (Open s) work)
 unfolding unmountStepsBy
 unmount-rests true s card work p m e W F = unfold applySteps play in rw (worn-shows s card work p m e F W) (W .rest)
 unmount-rests false s card work p m e V₀ F = go (atTop s) refl
   where
     go : (b : Bool) → atTop s ≡ b
-        → AtRest (s .geo) (applySteps (syncSteps s work (downSteps b s (setWord (s .c .0) (s .t .0) work))) card) (play (syncSteps s work (downSteps b s (setWord (s .c .0) (s .t .0) work))) p) (shownIn (Open s) work)
+        → AtRest (s .geo) (applySteps (syncSteps s card work (downSteps b s (setWord (s .c .0) (s .t .0) work))) card) (play (syncSteps s card work (downSteps b s (setWord (s .c .0) (s .t .0) work))) p) (shownIn (Open s) work)
     go true q = unfold downSteps in (rw (sync-card s card work p m V₀ F e [], sync-play s card work p m V₀ F e []) (unfold applySteps play in new-rests s card work p m V₀ F e))
     go false q =
         unfold downSteps in
@@ -143,14 +143,14 @@ unfolding after stepped stepsOf unmountsBy unmount refused byNumber
 step-unmount Closed card work p m h = h
 step-unmount (Open s) card work p m h =
     by-plan (λ (r : Ended). r .answer .number) Inv (mk card work (Open s) p m) _ _
-    (λ r. mk (r .card) (r .work) (r .session) (play (byNumber (r .answer .number) (unmountSteps s work) []) p) (shownIn (Open s) work)) (λ k. refl)
+    (λ r. mk (r .card) (r .work) (r .session) (play (byNumber (r .answer .number) (unmountSteps s card work) []) p) (shownIn (Open s) work)) (λ k. refl)
     (both-num s card work (go! 0 0)) h
     (λ j a e. finish (fit-inv s work (both-inv s card work _ e .0)))
   where
     finish : Fit s work
         → Inv (byNumber (unmountDone s card work .answer .number)
         (mk (unmountDone s card work .card) (unmountDone s card work .work) (unmountDone s card work .session)
-        (play (byNumber (unmountDone s card work .answer .number) (unmountSteps s work) []) p) (shownIn (Open s) work)) (mk card work (Open s) p m))
+        (play (byNumber (unmountDone s card work .answer .number) (unmountSteps s card work) []) p) (shownIn (Open s) work)) (mk card work (Open s) p m))
     finish F = unfold unmountDone unmountSteps done byNumber in (s .geo, unmount-rests (s .worn) s card work p m refl h F)
 
 pub inv-step : (w : World) → Inv w → (c : Call) → Inv (after c w)

@@ -15,7 +15,8 @@ use Rattle.counts.specs.GeoLaws.{Limits, limits}
 use Rattle.session.specs.declared.Opened.{Opened}
 use Rattle.session.specs.declared.Session.the-variants.{Open}
 use Rattle.session.specs.FitLaws.{Fit}
-use Rattle.store.specs.Steps.{setWord, tableSector, syncSteps}
+use Rattle.store.specs.Steps.{setWord, tableSector, syncSteps, allSteps}
+use Rattle.store.specs.SyncFewer.{sync-same-card}
 use Rattle.promises.specs.PlainList.{Item, shownIn}
 use Rattle.promises.specs.History.{Pending, written, newest, play, settled, Left, Reads}
 use Rattle.promises.specs.Keep.{Keeps}
@@ -90,23 +91,23 @@ module _ (s : Opened) (card work : List ℕ) (p : Pending) (m : List Item) (V₀
       go i (yes e) = rw (e, written-here ts (sec now ts) (settled work)) (unfold newest settled in refl)
       go i (no o) = rw (written-there ts (sec now ts) (settled work) i o) (unfold newest settled in (rw (sync-other s work F live i o)))
 
-  pub sync-every : (r : List Step) → Every (Either s work m) r (settled now) → Every (Either s work m) (syncSteps s work r) p
+  pub sync-every : (r : List Step) → Every (Either s work m) r (settled now) → Every (Either s work m) (syncSteps s card work r) p
   unfolding syncSteps
   sync-every r h =
-      every-copy (Either s work m) KeepAll old-reads work keep-written 1 0 _ p (V₀ .keeps) (V₀ .top)
+      every-copy (Either s work m) KeepAll old-reads card work keep-written 1 0 _ p (V₀ .keeps) (V₀ .top)
       (λ p₁ k₁ t₁.
-      every-copy (Either s work m) KeepAll old-reads work keep-written (g .s - g .t - 1) (g .t + 1) _ p₁ k₁ t₁
+      every-copy (Either s work m) KeepAll old-reads card work keep-written (g .s - g .t - 1) (g .t + 1) _ p₁ k₁ t₁
       (λ p₂ k₂ t₂.
       every-settle (Either s work m) _ p₂ (old-reads p₂ k₂)
       (subst (λ (x : Pending). Every (Either s work m) (write ts (sec now ts) ∷ settle ∷ r) x) (sym (landed work p₂ t₂))
       (every-write (Either s work m) ts (sec now ts) _ (settled work) (old-reads (settled work) keep-settled)
       (every-settle (Either s work m) r _ both-reads (subst (λ (x : Pending). Every (Either s work m) r x) (sym table-lands) h))))))
 
-  pub sync-play : (r : List Step) → play (syncSteps s work r) p ≡ play r (settled now)
+  pub sync-play : (r : List Step) → play (syncSteps s card work r) p ≡ play r (settled now)
   unfolding syncSteps
   sync-play r =
-      play-copy (Either s work m) KeepAll old-reads work keep-written 1 0 _ p _ (V₀ .keeps) (V₀ .top)
-      (λ p₁ k₁ t₁. play-copy (Either s work m) KeepAll old-reads work keep-written (g .s - g .t - 1) (g .t + 1) _ p₁ _ k₁ t₁ (λ p₂ k₂ t₂. fin p₂ t₂))
+      play-copy (Either s work m) KeepAll old-reads card work keep-written 1 0 _ p _ (V₀ .keeps) (V₀ .top)
+      (λ p₁ k₁ t₁. play-copy (Either s work m) KeepAll old-reads card work keep-written (g .s - g .t - 1) (g .t + 1) _ p₁ _ k₁ t₁ (λ p₂ k₂ t₂. fin p₂ t₂))
     where
       fin : (p₂ : Pending) → Top work p₂ → play (settle ∷ write ts (sec now ts) ∷ settle ∷ r) p₂ ≡ play r (settled now)
       fin p₂ t₂ =
@@ -120,9 +121,9 @@ module _ (s : Opened) (card work : List ℕ) (p : Pending) (m : List Item) (V₀
   table-old i h = V₀ .keeps i (sec card i) (V₀ .may i) .fixed h ∙ sym (keeps-work i .fixed h)
 
   -- the steps of a sync leave the working image with word c set, and go on from it
-  pub sync-card : (r : List Step) → applySteps (syncSteps s work r) card ≡ applySteps r now
-  unfolding syncSteps
-  sync-card r = one (copied (g .s) 1 0 work card _ (V₀ .sized) (F .sized) (omega (arith, L .sLow, L .past, L .dir)))
+  pub sync-card : (r : List Step) → applySteps (syncSteps s card work r) card ≡ applySteps r now
+  unfolding allSteps
+  sync-card r = sync-same-card s card work r ∙ one (copied (g .s) 1 0 work card _ (V₀ .sized) (F .sized) (omega (arith, L .sLow, L .past, L .dir)))
     where
       L : Limits g
       L = limits g (F .shape)
@@ -130,9 +131,9 @@ module _ (s : Opened) (card work : List ℕ) (p : Pending) (m : List Item) (V₀
       tail : List Step
       tail = settle ∷ write ts (sec now ts) ∷ settle ∷ r
 
-      two : (A : Copied (g .s) 0 1 work card (copySteps work (g .t + 1) (g .s - g .t - 1) tail) (applySteps (syncSteps s work r) card))
+      two : (A : Copied (g .s) 0 1 work card (copySteps work (g .t + 1) (g .s - g .t - 1) tail) (applySteps (allSteps s work r) card))
           → Copied (g .s) (g .t + 1) (g .s - g .t - 1) work (A .card′) tail (applySteps (copySteps work (g .t + 1) (g .s - g .t - 1) tail) (A .card′))
-          → applySteps (syncSteps s work r) card ≡ applySteps r now
+          → applySteps (allSteps s work r) card ≡ applySteps r now
       two A B = A .ends ∙ B .ends ∙ (unfold applySteps in (ap (λ (x : List ℕ). applySteps r x) last))
         where
           wd : length (sec now ts) ≡ 512
@@ -152,5 +153,5 @@ module _ (s : Opened) (card work : List ℕ) (p : Pending) (m : List Item) (V₀
           last =
               image-same _ now (g .s) (setSec-length (B .card′) ts (sec now ts) ∙ B .sized) (sync-length s work F live) (λ i l. pick i l (ℕ-discrete i ts))
 
-      one : Copied (g .s) 0 1 work card (copySteps work (g .t + 1) (g .s - g .t - 1) tail) (applySteps (syncSteps s work r) card) → applySteps (syncSteps s work r) card ≡ applySteps r now
+      one : Copied (g .s) 0 1 work card (copySteps work (g .t + 1) (g .s - g .t - 1) tail) (applySteps (allSteps s work r) card) → applySteps (allSteps s work r) card ≡ applySteps r now
       one A = two A (copied (g .s) (g .s - g .t - 1) (g .t + 1) work (A .card′) tail (A .sized) (F .sized) (omega (arith, L .sLow, L .past, L .dir)))

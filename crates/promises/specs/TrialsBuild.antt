@@ -87,7 +87,7 @@ lateStart = applySteps (mountSteps deadCard) deadCard
 
 -- and the card after a sync, with nothing put
 unfoldable pub lateSynced : List ℕ
-lateSynced = applySteps (syncSteps (stretch 1) lateStart []) lateStart
+lateSynced = applySteps (syncSteps (stretch 1) lateStart lateStart []) lateStart
 
 -- what the card shows, what the session shows, and what the card shows after the sync
 pub late-shows : (lookup a (shownBy deadCard) ≡ none) × (lookup a (shownIn (Open (stretch 1)) lateStart) ≡ some []) × (lookup a (shownBy lateSynced) ≡ some [])

@@ -59,7 +59,7 @@ put-done s card work p m n d j i e = rw e
 -- and after such a sync
 pub sync-done : (s : Opened) (card work : List ℕ) (p : Pending) (m : List Item) → bothPlan s card work (guard 9 (not (s .worn)) (doIt 0 0)) ≡ doIt 0 0
     → after syncC (mk card work (Open s) p m)
-    ≡ mk (applySteps (syncSteps s work []) card) (syncWork s work) (Open (grown (atTop s) s)) (play (syncSteps s work []) p) (shownIn (Open s) work)
+    ≡ mk (applySteps (syncSteps s card work []) card) (syncWork s work) (Open (grown (atTop s) s)) (play (syncSteps s card work []) p) (shownIn (Open s) work)
 unfolding after stepped stepsOf syncsBy sync syncDone ended done byNumber
 sync-done s card work p m e = rw e
 
@@ -75,7 +75,7 @@ putA = mk start workA (Open (stretch 1)) (allWritten workA (mounted .pending)) (
 
 -- after sync
 unfoldable pub synced : World
-synced = mk cardS workS (Open (stretch 2)) (play (syncSteps (stretch 1) workA []) (putA .pending)) (shownIn (Open (stretch 1)) workA)
+synced = mk cardS workS (Open (stretch 2)) (play (syncSteps (stretch 1) start workA []) (putA .pending)) (shownIn (Open (stretch 1)) workA)
 
 -- after put of `b`
 unfoldable pub putB : World
@@ -130,7 +130,7 @@ fits-B = always-fits reach-putB
 
 sizes : (length cardS ≡ 512 * 10) × (length workB ≡ 512 * 10)
 unfolding cardS
-sizes = (applySteps-length (syncSteps (stretch 1) workA []) start ∙ start-sized, fit-inv (stretch 2) workB fits-B .sized)
+sizes = (applySteps-length (syncSteps (stretch 1) start workA []) start ∙ start-sized, fit-inv (stretch 2) workB fits-B .sized)
 
 again-goes : bothPlan (stretch 2) cardS workB (guard 9 (not false) (doIt 0 0)) ≡ doIt 0 0
 again-goes = sync-plan (stretch 2) cardS workB (sizes .0) fits-B refl

@@ -1,18 +1,16 @@
--- Trial stores: "one that stores nothing", "one that makes up the free or file count", "one whose sync writes the table sector first". Assumes nothing.
+-- Trial stores: "one that stores nothing", "one that makes up the free or file count". Assumes nothing.
 use mathlib.Core.Path.{_≡_, refl, sym, ap, _∙_}
-use mathlib.Core.Bool.{true, false}
-use mathlib.Core.List.{List, [], _∷_, _++_}
+use mathlib.Core.Bool.{true}
+use mathlib.Core.List.{List, [], _∷_}
 use mathlib.Core.Logic.{_≢_}
 use mathlib.Core.Option.{Option, none, some}
-use Prim.Native.Nat.{ℕ, zero, suc, _+_, _-_, _*_, _≤_}
+use Prim.Native.Nat.{ℕ, _+_, _≤_}
 use native.Mathlib.Omega.{arith}
-use lib.ListN.{length, take}
+use lib.ListN.{length}
 use Rattle.words.specs.BoolLaws.{never}
-use Rattle.sectors.specs.Sectors.{sec, Step, write, settle, applySteps, copySteps}
-use Rattle.sectors.specs.FlatLaws.{sec-in, set-here, set-there}
+use Rattle.sectors.specs.Sectors.{sec}
 use Rattle.counts.specs.declared.Geo.{Geo}
 use Rattle.counts.specs.Geometry.{gF, geoOk, geoOf, gDir, gP}
-use Rattle.counts.specs.GeoLaws.{limits}
 use Rattle.card.specs.declared.Line.{Line}
 use Rattle.card.specs.Plan.{done, Changed}
 use Rattle.card.specs.Files.{sectorsOf}
@@ -26,7 +24,6 @@ use Rattle.session.specs.declared.Session.the-variants.{Open}
 use Rattle.session.specs.Fits.{fits}
 use Rattle.session.specs.FitMeans.{Fits}
 use Rattle.session.specs.FitLaws.{fit-inv}
-use Rattle.store.specs.Steps.{setWord, tableSector, syncSteps}
 use Rattle.store.specs.Edit.{put}
 use Rattle.store.specs.declared.Room.{Room}
 use Rattle.store.specs.Look.{list, free}
@@ -40,7 +37,6 @@ use Rattle.promises.specs.Answers.{put-answers}
 use Rattle.promises.specs.ReadsBy.{reads-shape, reads-sound}
 use Rattle.promises.specs.Demand.{card-possible}
 use Rattle.promises.specs.LookLaws.{with-look}
-use Rattle.promises.specs.Synced.{sync-length, room, inside}
 use Rattle.promises.specs.TrialsCard.{ten, ten-ok, a, seven}
 use Rattle.promises.specs.TrialsRun.{mounted, synced, reach-synced, at-mounted, at-synced}
 
@@ -141,65 +137,3 @@ files-fixed k h =
     let x : k ≡ 0 = h (freshCard ten) (fresh-shape ten ten-ok) (fresh-sound ten ten-ok) ∙ ap length (fresh-none ten ten-ok) in
     let y : k ≡ length (synced .last) = h (synced .card) (reads-shape r) (reads-sound r) ∙ ap length (r .shows) in
     has-some (synced .last) a seven at-synced (sym y ∙ x)
-
--- ---- "one whose sync writes the table sector first"
-
--- the sectors that steps write, in their order
-unfoldable pub sectorsWritten : List Step → List ℕ
-sectorsWritten [] = []
-sectorsWritten (write i x ∷ r) = i ∷ sectorsWritten r
-sectorsWritten (settle ∷ r) = sectorsWritten r
-
--- n sectors from i up
-unfoldable pub rising : ℕ → ℕ → List ℕ
-rising i zero = []
-rising i (suc n) = i ∷ rising (suc i) n
-
--- copies are in rising order
-copies-rising : (img : List ℕ) (i n : ℕ) (r : List Step) → sectorsWritten (copySteps img i n r) ≡ rising i n ++ sectorsWritten r
-unfolding sectorsWritten rising copySteps
-copies-rising img i zero r = refl
-copies-rising img i (suc n) r = ap (i ∷_) (copies-rising img (suc i) n r)
-
--- sync's writes: sector 0, those behind the table in rising order, and the table sector last
-pub sync-order : (s : Opened) (work : List ℕ)
-    → sectorsWritten (syncSteps s work []) ≡ 0 ∷ rising (s .geo .t + 1) (s .geo .s - s .geo .t - 1) ++ (tableSector (s .c .0) ∷ [])
-unfolding syncSteps copySteps sectorsWritten
-sync-order s work = ap (0 ∷_) (copies-rising work (s .geo .t + 1) (s .geo .s - s .geo .t - 1) _)
-
--- a sync that writes the table sector first, and then the others
-unfoldable pub tableFirst : Opened → List ℕ → List Step
-tableFirst s work =
-    write (tableSector (s .c .0)) (sec (setWord (s .c .0) (s .t .0) work) (tableSector (s .c .0))) ∷ settle
-    ∷ copySteps work 0 1 (copySteps work (s .geo .t + 1) (s .geo .s - s .geo .t - 1) (settle ∷ []))
-
--- the first of them
-first : List ℕ → ℕ
-first [] = 0
-first (i ∷ is) = i
-
--- steps that begin with a sector other than 0 are not sync's, in any session
-pub not-sync : (s : Opened) (work : List ℕ) (i : ℕ) (x : List ℕ) (r : List Step) → i ≢ 0 → write i x ∷ r ≢ syncSteps s work []
-unfolding sectorsWritten first
-not-sync s work i x r o e = o (ap (λ y. first (sectorsWritten y)) e ∙ ap first (sync-order s work))
-
--- so the steps that begin with the table sector are not sync's
-pub table-first : (s : Opened) (work : List ℕ) → tableFirst s work ≢ syncSteps s work []
-unfolding tableFirst tableSector
-table-first s work = not-sync s work (tableSector (s .c .0)) _ _ (λ e. absurd (omega arith))
-
--- and the card shows it after one step, where the card does not have the table sector that sync writes
-pub table-first-step : (s : Opened) (card work : List ℕ) → fits s work ≡ true → s .worn ≡ false → length card ≡ 512 * s .geo .s
-    → sec (setWord (s .c .0) (s .t .0) work) (tableSector (s .c .0)) ≢ sec card (tableSector (s .c .0))
-    → applySteps (take 1 (tableFirst s work)) card ≢ applySteps (take 1 (syncSteps s work [])) card
-unfolding tableFirst syncSteps copySteps applySteps
-table-first-step s card work f live l o e =
-    let F = fit-inv s work f in
-    let i = tableSector (s .c .0) in
-    let S = s .geo .s in
-    let r = room s work F live .0 in
-    let x = sec-in (setWord (s .c .0) (s .t .0) work) S i (sync-length s work F live) (inside s work F live) in
-    let y = sec-in work S 0 (F .sized) (omega (arith, limits (s .geo) (F .shape) .sLow, limits (s .geo) (F .shape) .past, limits (s .geo) (F .shape) .dir)) in
-    let p = set-here S card (sec (setWord (s .c .0) (s .t .0) work) i) i l (inside s work F live) x in
-    let q = set-there S card (sec work 0) 0 l (omega (arith, limits (s .geo) (F .shape) .sLow, limits (s .geo) (F .shape) .past, limits (s .geo) (F .shape) .dir)) y i (λ z. omega (arith, r)) in
-    o (sym p ∙ ap (λ k. sec k i) e ∙ q)

@@ -22,7 +22,7 @@ use Rattle.promises.specs.Play.{written-here, written-there}
 use Rattle.promises.specs.Demand.{demand-three, card-possible}
 use Rattle.promises.specs.TrialsCard.{newTable, tableLanded, table-unsound}
 use Rattle.promises.specs.TrialsRun.{putB, reach-putB, at-putB, putB-sized}
-use Rattle.promises.specs.TrialsStore.{tableFirst}
+use Rattle.promises.specs.TrialsOrder.{tableFirst}
 
 -- what demand 3 says of the cuts inside a sync, of any sync, by its steps: after any number of them
 abbrev pub StepsRead : (World → List Step) → Type 0
@@ -36,13 +36,13 @@ unfolding pendingIn before
 of-these-steps w r n card x = ⊎-elim inl (λ q. inr (q .1)) (demand-three w r .1 syncC n card x)
 
 -- the steps of a sync that writes the table sector first
-unfoldable pub firstBy : Session → List ℕ → List Step
-firstBy Closed work = []
-firstBy (Open s) work = tableFirst s work
+unfoldable pub firstBy : Session → List ℕ → List ℕ → List Step
+firstBy Closed card work = []
+firstBy (Open s) card work = tableFirst s card work
 
 -- the same at a world; none where the sync is refused
 unfoldable pub tableFirstOf : World → List Step
-tableFirstOf w = byNumber (sync (w .session) (w .card) (w .work) .answer .number) (firstBy (w .session) (w .work)) []
+tableFirstOf w = byNumber (sync (w .session) (w .card) (w .work) .answer .number) (firstBy (w .session) (w .card) (w .work)) []
 
 -- ---- `putB`, and the first of these steps
 

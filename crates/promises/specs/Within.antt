@@ -77,23 +77,23 @@ within-sync : (s : Session) (card work : List ℕ) (p : Pending) (m : List Item)
 unfolding stepsOf sync refused syncsBy byNumber isSync
 within-sync Closed card work p m h = every-nil (Mid syncC Closed card work m) p (mid-old syncC Closed card work p m h)
 within-sync (Open s) card work p m h =
-    steps-plan (λ (r : Ended). r .answer .number) (λ (x : List Step). Every (Mid syncC (Open s) card work m) x p) _ _ (syncSteps s work []) (λ k. refl)
+    steps-plan (λ (r : Ended). r .answer .number) (λ (x : List Step). Every (Mid syncC (Open s) card work m) x p) _ _ (syncSteps s card work []) (λ k. refl)
     (both-num s card work (guard-num 8 _ (go! 0 0))) (every-nil (Mid syncC (Open s) card work m) p (mid-old syncC (Open s) card work p m h))
     (λ j a e. let (F, live) = sync-live s card work e in finish F live)
   where
-    finish : Fit s work → s .worn ≡ false → Every (Mid syncC (Open s) card work m) (byNumber (syncDone s card work .answer .number) (syncSteps s work []) []) p
+    finish : Fit s work → s .worn ≡ false → Every (Mid syncC (Open s) card work m) (byNumber (syncDone s card work .answer .number) (syncSteps s card work []) []) p
     finish F live n k x =
         let V₀ = to-live s (mk card work (Open s) p m) live h in
         unfold syncDone done byNumber isSync in
         sync-every s card work p m V₀ F live [] (every-nil (Either s work m) _ (new-reads s card work p m V₀ F live)) n k (rw (V₀ .sized) at x)
 
 unmount-cuts : (b : Bool) (s : Opened) (card work : List ℕ) (p : Pending) (m : List Item) → s .worn ≡ b → OpenInv b s (mk card work (Open s) p m) → Fit s work
-    → Mid unmountC (Open s) card work m p → Every (Mid unmountC (Open s) card work m) (unmountStepsBy b s work) p
+    → Mid unmountC (Open s) card work m p → Every (Mid unmountC (Open s) card work m) (unmountStepsBy b s card work) p
 unfolding unmountStepsBy isSync
 unmount-cuts true s card work p m e W F old = every-nil (Mid unmountC (Open s) card work m) p old
 unmount-cuts false s card work p m e V₀ F old = λ n k x. go (atTop s) refl n k (rw (V₀ .sized) at x)
   where
-    go : (b : Bool) → atTop s ≡ b → Every (Either s work m) (syncSteps s work (downSteps b s (setWord (s .c .0) (s .t .0) work))) p
+    go : (b : Bool) → atTop s ≡ b → Every (Either s work m) (syncSteps s card work (downSteps b s (setWord (s .c .0) (s .t .0) work))) p
     go true q = unfold downSteps in sync-every s card work p m V₀ F e [] (every-nil (Either s work m) _ (new-reads s card work p m V₀ F e))
     go false q =
         unfold downSteps in
@@ -105,11 +105,11 @@ within-unmount : (s : Session) (card work : List ℕ) (p : Pending) (m : List It
 unfolding stepsOf unmount refused unmountsBy byNumber
 within-unmount Closed card work p m h = every-nil (Mid unmountC Closed card work m) p (mid-old unmountC Closed card work p m h)
 within-unmount (Open s) card work p m h =
-    steps-plan (λ (r : Ended). r .answer .number) (λ (x : List Step). Every (Mid unmountC (Open s) card work m) x p) _ _ (unmountSteps s work) (λ k. refl)
+    steps-plan (λ (r : Ended). r .answer .number) (λ (x : List Step). Every (Mid unmountC (Open s) card work m) x p) _ _ (unmountSteps s card work) (λ k. refl)
     (both-num s card work (go! 0 0)) (every-nil (Mid unmountC (Open s) card work m) p (mid-old unmountC (Open s) card work p m h))
     (λ j a e. finish (fit-inv s work (both-inv s card work _ e .0)))
   where
-    finish : Fit s work → Every (Mid unmountC (Open s) card work m) (byNumber (unmountDone s card work .answer .number) (unmountSteps s work) []) p
+    finish : Fit s work → Every (Mid unmountC (Open s) card work m) (byNumber (unmountDone s card work .answer .number) (unmountSteps s card work) []) p
     finish F = unfold unmountDone unmountSteps done byNumber in unmount-cuts (s .worn) s card work p m refl h F (mid-old unmountC (Open s) card work p m h)
 
 -- ---- every call

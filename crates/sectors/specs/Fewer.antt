@@ -7,8 +7,8 @@ use Prim.Native.Nat.{ℕ, zero, suc, _+_, _*_, _≤_, _<_}
 use native.Mathlib.Nat.{zero-add, add-zero, add-suc, suc-add}
 use native.Mathlib.Numerals.{add-one}
 use native.Mathlib.Omega.{arith}
-use lib.ListN.{length, take, drop, length-take}
-use Rattle.words.specs.Lists.{part, eqList, splice, setPart}
+use lib.ListN.{length, take, length-take}
+use Rattle.words.specs.Lists.{part, eqList, setPart}
 use Rattle.words.specs.EveryMore.{eqList-eq}
 use Rattle.sectors.specs.Sectors.{sec, setSec, Step, write, settle, applySteps, copySteps, unless, diffSteps, writesIn, unlike, differs, lean, leanWrites}
 use Rattle.sectors.specs.SectorLaws.{setSec-own}

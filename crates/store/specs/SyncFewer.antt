@@ -8,10 +8,10 @@ use native.Mathlib.Omega.{arith}
 use native.Mathlib.Decide.{decLt}
 use lib.ListN.{length, take}
 use lib.Seq.{take-all, take-append-le}
-use Rattle.sectors.specs.Sectors.{sec, Step, write, settle, applySteps, copySteps, diffSteps, writesIn, differs, lean, leanWrites}
+use Rattle.sectors.specs.Sectors.{sec, Step, write, applySteps, copySteps, diffSteps, writesIn, differs, lean, leanWrites}
 use Rattle.sectors.specs.Fewer.{lean-apply, lean-first, lean-copy, diff-behind, count-copy, count-behind, count-turn}
 use Rattle.session.specs.declared.Opened.{Opened}
-use Rattle.store.specs.Steps.{setWord, pastTable, tableSteps, syncSteps, allSteps, atTop, downSteps, unmountStepsBy, unmountSteps, allDownBy, allDown, syncedAt, downAt, writtenAt, countedAt, countedBy, unmountCount}
+use Rattle.store.specs.Steps.{pastTable, tableSteps, syncSteps, allSteps, unmountStepsBy, unmountSteps, allDownBy, allDown, syncedAt, downAt, writtenAt, countedAt, countedBy, unmountCount}
 use Rattle.store.specs.SyncLaws.{sync-length, unmount-length}
 
 -- ---- what is left of the full copy are the steps of the call

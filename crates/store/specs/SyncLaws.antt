@@ -2,13 +2,13 @@
 use mathlib.Core.Path.{_≡_, refl, sym, ap, _∙_}
 use mathlib.Core.Bool.{Bool, true, false}
 use mathlib.Core.Logic.{_≢_}
-use mathlib.Core.List.{List, [], _∷_}
+use mathlib.Core.List.{List, []}
 use Prim.Native.Nat.{ℕ, zero, suc, _+_, _-_, _≤_, _<_}
 use native.Mathlib.Omega.{arith}
 use native.Mathlib.Decide.{ℕ-discrete, decLt, decLe}
 use borrow.Author.Tests.{eq-eqb, ne-eqb}
 use lib.ListN.{length}
-use Rattle.sectors.specs.Sectors.{sec, setSec, Step, write, settle, applySteps, applyStep, copySteps}
+use Rattle.sectors.specs.Sectors.{sec, setSec, Step, applySteps, applyStep, copySteps}
 use Rattle.sectors.specs.SectorLaws.{step-none, copy-length, copy-step, copy-behind}
 use Rattle.counts.specs.Stamps.{maxTx}
 use Rattle.session.specs.declared.Opened.{Opened}
