@@ -36,10 +36,11 @@ pub data Act : Type 0 where
   gets : List ℕ → ℕ → ℕ → ℕ → Act
   -- free and waiting
   frees : ℕ → ℕ → Act
-  syncs : ℕ → Act
+  -- the number, and how many sectors it wrote
+  syncs : ℕ → ℕ → Act
   -- land of a sector
   lands : ℕ → ℕ → Act
-  unmounts : ℕ → Act
+  unmounts : ℕ → ℕ → Act
   -- the power is cut: the card stays as it is
   cuts : Act
   -- sync takes so many of its steps, and the power is cut
@@ -87,7 +88,7 @@ isRoom f n r = eqb 0 (r .number) && eqb f (r .free) && eqb n (r .waiting)
 -- the card after the first n steps of a sync
 unfoldable pub stepsDone : Session → ℕ → List ℕ → List ℕ → List ℕ
 stepsDone Closed n card work = card
-stepsDone (Open s) n card work = applySteps (take n (syncSteps s work [])) card
+stepsDone (Open s) n card work = applySteps (take n (syncSteps s card work [])) card
 
 -- the acts of one case in order: each gives what the line says, or the case fails
 unfoldable pub run : Bench → List Act → Bool
@@ -108,15 +109,15 @@ run w (gets n l k b ∷ acts) =
     let r = get (w .session) (w .work) n (replicate l 9) in
     cond (isAnswer k b (r .answer) && eqList (r .out) (replicate b 7 ++ drop b (replicate l 9))) (run w acts) false
 run w (frees f n ∷ acts) = cond (isRoom f n (free (w .session) (w .work))) (run w acts) false
-run w (syncs k ∷ acts) =
+run w (syncs k n ∷ acts) =
     let r = sync (w .session) (w .card) (w .work) in
-    cond (isAnswer k 0 (r .answer)) (run (record { session = r .session; card = r .card; work = r .work }) acts) false
+    cond (isAnswer k n (r .answer)) (run (record { session = r .session; card = r .card; work = r .work }) acts) false
 run w (lands i k ∷ acts) =
     let r = land (w .session) (w .card) (w .work) i in
     cond (isAnswer k 0 (r .answer)) (run (record { session = w .session; card = r .image; work = w .work }) acts) false
-run w (unmounts k ∷ acts) =
+run w (unmounts k n ∷ acts) =
     let r = unmount (w .session) (w .card) (w .work) in
-    cond (isAnswer k 0 (r .answer)) (run (record { session = r .session; card = r .card; work = r .work }) acts) false
+    cond (isAnswer k n (r .answer)) (run (record { session = r .session; card = r .card; work = r .work }) acts) false
 run w (cuts ∷ acts) = run (record { session = Closed; card = w .card; work = w .card }) acts
 run w (syncCuts n ∷ acts) =
     let k = stepsDone (w .session) n (w .card) (w .work) in run (record { session = Closed; card = k; work = k }) acts

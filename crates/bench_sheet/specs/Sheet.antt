@@ -7,7 +7,7 @@ use lib.ListN.{replicate}
 use Rattle.sums.specs.Sums.{inRun}
 use Rattle.words.specs.Lists.{every, pairwise, firstAt, eqList, part, over, splice, setPart, pad}
 use Rattle.words.specs.Bytes.{wordAt, words, wordBytes}
-use Rattle.sectors.specs.Sectors.{sec, setSec, applySteps, copySteps}
+use Rattle.sectors.specs.Sectors.{sec, setSec, applySteps, unless, diffSteps, writesIn}
 use Rattle.counts.specs.Geometry.{gN, gP, gDir, gF, geoOk, countOf, geoOf, tableFrom, tableOf}
 use Rattle.counts.specs.Stamps.{stampOf, alive, showing, stampOk, deadBelow, tableOk, tableIn, asIs, sameStamp, standing, becomesOld}
 use Rattle.entries.specs.Entries.{versionOf, versionBytes, newOf, oldOf, nameBytes, entryOf, entryBytes, shownBytes, shown, goodName, nameOf, nameOk, sectorsFor, runOk, versionOk, entryOk, changed}
@@ -23,7 +23,7 @@ use Rattle.card.specs.Make.{blockBytes, freshGroup, freshGroups, freshIndex, fr
 use Rattle.card.specs.Reading.{filesIn, filesShown, pageShown, readPlan, read, readList, readGet}
 use Rattle.session.specs.Views.{ownStamp, presentView, presentTable, cutTable, presentPage, cutPage, presentFiles, sessionFiles}
 use Rattle.session.specs.Fits.{sizesOk, headOk, wordOk, stampAtMost, entryAtMost, groupAtMost, indexAtMost, fitsIn, fits}
-use Rattle.store.specs.Steps.{setCount, setWord, tableSector, mountSteps, syncSteps, atTop, downSteps, unmountStepsBy, unmountSteps, syncWork, downWork, unmountWorkBy, unmountWork}
+use Rattle.store.specs.Steps.{setCount, setWord, tableSector, mountSteps, syncSteps, atTop, downSteps, unmountStepsBy, unmountSteps, countedBy, unmountCount, syncWork, downWork, unmountWorkBy, unmountWork}
 use Rattle.store.specs.Mount.{mountPlan, openedFrom, mountDone, mount}
 use Rattle.store.specs.Edit.{orElse, putPlace, placeIn, runIn, putPlan, putContent, editWork, putRun, putWork, put, removePlan, removeWork, remove}
 use Rattle.store.specs.Look.{get, list, noFigures, figures, free}
@@ -51,7 +51,7 @@ ten acts = makes 10 0 ∷ mounts 0 ∷ acts
 
 -- four synced files of 0 bytes
 unfoldable pub four : List Act → List Act
-four acts = makes 10 0 ∷ mounts 0 ∷ puts a 0 0 ∷ puts b 0 0 ∷ puts c 0 0 ∷ puts d 0 0 ∷ syncs 0 ∷ acts
+four acts = makes 10 0 ∷ mounts 0 ∷ puts a 0 0 ∷ puts b 0 0 ∷ puts c 0 0 ∷ puts d 0 0 ∷ syncs 0 2 ∷ acts
 
 unfoldable pub starred : List (List Act)
 unfolding ten four
@@ -65,18 +65,18 @@ starred =
     -- 513 bytes take sectors 6 and 7
     ∷ ten (puts a 513 0 ∷ shows a 513 6 2 ∷ frees 2 0 ∷ [])
     -- Put a (2 sectors), sync, put a (2 sectors): at 8. Put b of 1 byte: 8. After sync it goes to 6
-    ∷ ten (puts a 1024 0 ∷ syncs 0 ∷ puts a 1024 0 ∷ shows a 1024 8 2 ∷ frees 0 2 ∷ puts b 1 8 ∷ syncs 0 ∷ frees 2 0 ∷ puts b 1 0 ∷ shows b 1 6 1 ∷ [])
+    ∷ ten (puts a 1024 0 ∷ syncs 0 6 ∷ puts a 1024 0 ∷ shows a 1024 8 2 ∷ frees 0 2 ∷ puts b 1 8 ∷ syncs 0 6 ∷ frees 2 0 ∷ puts b 1 0 ∷ shows b 1 6 1 ∷ [])
     -- Put a (1 sector), remove a, put b (1 sector), no sync: b at 6
     ∷ ten (puts a 1 0 ∷ removes a 0 ∷ puts b 1 0 ∷ shows b 1 6 1 ∷ frees 3 0 ∷ [])
     -- 0 bytes are stored with no room left
     ∷ ten (puts a 2048 0 ∷ frees 0 0 ∷ puts b 0 0 ∷ shows b 0 0 0 ∷ [])
     -- Four synced files of 0 bytes, one removed: a fifth name gets 7, and after a sync it is taken. Put instead of it, the removed name is taken at once
-    ∷ four (removes b 0 ∷ puts e 0 7 ∷ syncs 0 ∷ puts e 0 0 ∷ shows e 0 0 0 ∷ [])
+    ∷ four (removes b 0 ∷ puts e 0 7 ∷ syncs 0 2 ∷ puts e 0 0 ∷ shows e 0 0 0 ∷ [])
     ∷ four (removes b 0 ∷ puts b 0 0 ∷ shows b 0 0 0 ∷ [])
     -- C = 127: mount writes 128. After a cut mount gives 3, reading still shows the files
-    ∷ ten (puts a 513 0 ∷ unmounts 0 ∷ counts 0 ∷ sets 127 ∷ mounts 0 ∷ counts 128 ∷ cuts ∷ mounts 3 ∷ reads 128 1 2 ∷ readsLine a 513 6 2 ∷ [])
+    ∷ ten (puts a 513 0 ∷ unmounts 0 6 ∷ counts 0 ∷ sets 127 ∷ mounts 0 ∷ counts 128 ∷ cuts ∷ mounts 3 ∷ reads 128 1 2 ∷ readsLine a 513 6 2 ∷ [])
     -- Word C = 2,147,483,646: sync gives 0, then put gives 9; unmount leaves C + 1. Word C = 2,147,483,647 is refused 2
-    ∷ (makes 10 0 ∷ tops 0 2147483646 ∷ mounts 0 ∷ puts a 1 0 ∷ syncs 0 ∷ puts b 1 9 ∷ unmounts 0 ∷ counts 1 ∷ readsLine a 1 6 1 ∷ [])
+    ∷ (makes 10 0 ∷ tops 0 2147483646 ∷ mounts 0 ∷ puts a 1 0 ∷ syncs 0 5 ∷ puts b 1 9 ∷ unmounts 0 0 ∷ counts 1 ∷ readsLine a 1 6 1 ∷ [])
     ∷ (makes 10 0 ∷ tops 0 2147483647 ∷ mounts 2 ∷ refuses 2 ∷ [])
     ∷ []
 
@@ -85,22 +85,24 @@ unfoldable pub others : List (List Act)
 unfolding ten
 others =
     -- A stamp (C, word C + 1) is refused 2; the same at C − 1 is dead and shows the old version
-    ten (puts a 0 0 ∷ syncs 0 ∷ cuts ∷ stamps 1 1 ∷ refuses 2 ∷ stamps 0 2 ∷ reads 1 0 4 ∷ [])
-    ∷ ten (puts a 0 0 ∷ syncs 0 ∷ puts a 1 0 ∷ lands 5 0 ∷ cuts ∷ reads 1 1 4 ∷ readsLine a 0 0 0 ∷ [])
+    ten (puts a 0 0 ∷ syncs 0 2 ∷ cuts ∷ stamps 1 1 ∷ refuses 2 ∷ stamps 0 2 ∷ reads 1 0 4 ∷ [])
+    ∷ ten (puts a 0 0 ∷ syncs 0 2 ∷ puts a 1 0 ∷ lands 5 0 ∷ cuts ∷ reads 1 1 4 ∷ readsLine a 0 0 0 ∷ [])
     -- Cut in sync before the table sector: the earlier files. After it: the new ones
-    ∷ ten (puts a 0 0 ∷ syncs 0 ∷ puts a 1 0 ∷ syncCuts 10 ∷ readsLine a 0 0 0 ∷ reads 1 1 4 ∷ [])
-    ∷ ten (puts a 0 0 ∷ syncs 0 ∷ puts a 1 0 ∷ syncCuts 11 ∷ readsLine a 1 6 1 ∷ reads 1 1 3 ∷ [])
+    ∷ ten (puts a 0 0 ∷ syncs 0 2 ∷ puts a 1 0 ∷ syncCuts 5 ∷ readsLine a 0 0 0 ∷ reads 1 1 4 ∷ [])
+    ∷ ten (puts a 0 0 ∷ syncs 0 2 ∷ puts a 1 0 ∷ syncCuts 6 ∷ readsLine a 1 6 1 ∷ reads 1 1 3 ∷ [])
     -- Get into a buffer of the file's size: 0; one byte less: 10
     ∷ ten (puts a 513 0 ∷ gets a 513 0 513 ∷ gets a 515 0 513 ∷ [])
     ∷ ten (puts a 513 0 ∷ gets a 512 10 0 ∷ gets b 512 6 0 ∷ [])
+    -- document 02: "A sync with no change writes exactly 1."; a sector that a land wrote is not written again
+    ∷ ten (syncs 0 1 ∷ puts a 513 0 ∷ syncs 0 6 ∷ syncs 0 1 ∷ puts a 513 0 ∷ lands 5 0 ∷ syncs 0 5 ∷ unmounts 0 1 ∷ [])
     ∷ []
 
 -- every starred line of the bench sheet holds
 pub sheet : all starred ≡ true
-unfolding all starred run sameLine hasLine isAnswer isReport isRoom stepsDone ten four inRun every pairwise firstAt eqList part over splice setPart pad wordAt words wordBytes sec setSec applySteps copySteps gN gP gDir gF geoOk countOf geoOf tableFrom tableOf stampOf alive showing stampOk deadBelow tableOk tableIn asIs sameStamp standing becomesOld versionOf versionBytes newOf oldOf nameBytes entryOf entryBytes shownBytes shown goodName nameOf nameOk sectorsFor runOk versionOk entryOk changed sectorEntries entriesFrom entriesOf spotsFrom spotOf setEntry gone apart named bitAt putDigit putBit setRun bitsN bitsOf clearIn clearBits merge allClear findRun lowestRun runFor outside wanted bitsOk bytesToS pageOk dataFrom dataTo freshPage freeIn waits waitingIn indexOf groupBytes groupOf everyGroup indexIn pairOk groupOk indexOk shownPage pageAt mapFrom pageIn changedIndex pageBefore changedRun changeRun changeBits guard need ended refused done consFile filesOf cover contentOf runOf runAt getPlan getEnd listPlan listEnd viewOk soundIn shapeOk sound blockBytes freshGroup freshGroups freshIndex freshPages freshCard makePlan make filesIn filesShown pageShown readPlan read readList readGet ownStamp presentView presentTable cutTable presentPage cutPage presentFiles sessionFiles sizesOk headOk wordOk stampAtMost entryAtMost groupAtMost indexAtMost fitsIn fits setCount setWord tableSector mountSteps syncSteps atTop downSteps unmountStepsBy unmountSteps syncWork downWork unmountWorkBy unmountWork mountPlan openedFrom mountDone mount orElse putPlace placeIn runIn putPlan putContent editWork putRun putWork put removePlan removeWork remove get list noFigures figures free bothPlan land grown syncDone sync unmountDone unmount
+unfolding all starred run sameLine hasLine isAnswer isReport stepsDone ten four inRun every pairwise firstAt eqList part over splice setPart pad wordAt words wordBytes sec setSec applySteps unless diffSteps writesIn gN gP gDir gF geoOk countOf geoOf tableFrom tableOf stampOf alive showing stampOk deadBelow tableOk tableIn asIs sameStamp standing becomesOld versionOf versionBytes newOf oldOf nameBytes entryOf entryBytes shownBytes shown goodName nameOf nameOk sectorsFor runOk versionOk entryOk changed sectorEntries entriesFrom entriesOf spotsFrom spotOf setEntry gone apart named bitAt putDigit putBit setRun bitsN bitsOf clearIn clearBits merge allClear findRun lowestRun runFor outside wanted bitsOk bytesToS pageOk dataFrom dataTo freshPage indexOf groupBytes groupOf everyGroup indexIn pairOk groupOk indexOk shownPage pageAt mapFrom pageIn changedIndex pageBefore changedRun changeRun changeBits guard need ended refused done consFile filesOf cover contentOf runOf runAt getPlan getEnd listPlan listEnd viewOk soundIn shapeOk sound blockBytes freshGroup freshGroups freshIndex freshPages freshCard makePlan make filesIn filesShown pageShown readPlan read readList readGet ownStamp presentView presentTable cutTable presentPage cutPage presentFiles sessionFiles sizesOk headOk wordOk stampAtMost entryAtMost groupAtMost indexAtMost fitsIn fits setCount setWord tableSector mountSteps syncSteps atTop downSteps unmountStepsBy unmountSteps countedBy unmountCount syncWork downWork unmountWorkBy unmountWork mountPlan openedFrom mountDone mount orElse putPlace placeIn runIn putPlan putContent editWork putRun putWork put removePlan removeWork remove get list free bothPlan land grown syncDone sync unmountDone unmount isRoom freeIn waits waitingIn noFigures figures
 sheet = refl
 
 -- and so do these
 pub sheet-others : all others ≡ true
-unfolding all others run sameLine hasLine isAnswer isReport isRoom stepsDone ten four inRun every pairwise firstAt eqList part over splice setPart pad wordAt words wordBytes sec setSec applySteps copySteps gN gP gDir gF geoOk countOf geoOf tableFrom tableOf stampOf alive showing stampOk deadBelow tableOk tableIn asIs sameStamp standing becomesOld versionOf versionBytes newOf oldOf nameBytes entryOf entryBytes shownBytes shown goodName nameOf nameOk sectorsFor runOk versionOk entryOk changed sectorEntries entriesFrom entriesOf spotsFrom spotOf setEntry gone apart named bitAt putDigit putBit setRun bitsN bitsOf clearIn clearBits merge allClear findRun lowestRun runFor outside wanted bitsOk bytesToS pageOk dataFrom dataTo freshPage freeIn waits waitingIn indexOf groupBytes groupOf everyGroup indexIn pairOk groupOk indexOk shownPage pageAt mapFrom pageIn changedIndex pageBefore changedRun changeRun changeBits guard need ended refused done consFile filesOf cover contentOf runOf runAt getPlan getEnd listPlan listEnd viewOk soundIn shapeOk sound blockBytes freshGroup freshGroups freshIndex freshPages freshCard makePlan make filesIn filesShown pageShown readPlan read readList readGet ownStamp presentView presentTable cutTable presentPage cutPage presentFiles sessionFiles sizesOk headOk wordOk stampAtMost entryAtMost groupAtMost indexAtMost fitsIn fits setCount setWord tableSector mountSteps syncSteps atTop downSteps unmountStepsBy unmountSteps syncWork downWork unmountWorkBy unmountWork mountPlan openedFrom mountDone mount orElse putPlace placeIn runIn putPlan putContent editWork putRun putWork put removePlan removeWork remove get list noFigures figures free bothPlan land grown syncDone sync unmountDone unmount
+unfolding all others run sameLine hasLine isAnswer isReport stepsDone ten four inRun every pairwise firstAt eqList part over splice setPart pad wordAt words wordBytes sec setSec applySteps unless diffSteps writesIn gN gP gDir gF geoOk countOf geoOf tableFrom tableOf stampOf alive showing stampOk deadBelow tableOk tableIn asIs sameStamp standing becomesOld versionOf versionBytes newOf oldOf nameBytes entryOf entryBytes shownBytes shown goodName nameOf nameOk sectorsFor runOk versionOk entryOk changed sectorEntries entriesFrom entriesOf spotsFrom spotOf setEntry gone apart named bitAt putDigit putBit setRun bitsN bitsOf clearIn clearBits merge allClear findRun lowestRun runFor outside wanted bitsOk bytesToS pageOk dataFrom dataTo freshPage indexOf groupBytes groupOf everyGroup indexIn pairOk groupOk indexOk shownPage pageAt mapFrom pageIn changedIndex pageBefore changedRun changeRun changeBits guard need ended refused done consFile filesOf cover contentOf runOf runAt getPlan getEnd listPlan listEnd viewOk soundIn shapeOk sound blockBytes freshGroup freshGroups freshIndex freshPages freshCard makePlan make filesIn filesShown pageShown readPlan read readList readGet ownStamp presentView presentTable cutTable presentPage cutPage presentFiles sessionFiles sizesOk headOk wordOk stampAtMost entryAtMost groupAtMost indexAtMost fitsIn fits setCount setWord tableSector mountSteps syncSteps atTop downSteps unmountStepsBy unmountSteps countedBy unmountCount syncWork downWork unmountWorkBy unmountWork mountPlan openedFrom mountDone mount orElse putPlace placeIn runIn putPlan putContent editWork putRun putWork put removePlan removeWork remove get list free bothPlan land grown syncDone sync unmountDone unmount isRoom freeIn waits waitingIn noFigures figures
 sheet-others = refl
