@@ -9,6 +9,7 @@ pub mod WriteLaws
 pub mod ViewLaws
 pub mod SyncLaws
 pub mod SyncFewer
+pub mod SyncCounts
 pub mod PlaceLaws
 pub mod Plans
 pub mod RoomLaws

@@ -1,8 +1,8 @@
--- All steps, then the word in the working image. Assumes nothing.
+-- All places, then the word in the working image. Assumes nothing.
 use Prim.Native.Nat.{_+_, _-_}
 use native.Mathlib.Omega.{arith}
 use Rattle.store.specs.Steps.{syncWork}
-use Rattle.store.specs.SyncLaws.{sync-all}
+use Rattle.store.specs.SyncCounts.{sync-all}
 use borrow.Author.Needs.{needs}
 use Rattle.syncing.proofs.sync_in.Statement.{statement}
 use Rattle.syncing.proofs.sync_in.Tie as tie
@@ -30,7 +30,7 @@ same-length-2 c = search needs
 
 returns : tie.Need-returns
 unfolding syncWork
-returns c = let g = c .before .before .before .before .before .before .before .before .before .before .before .before .before .before .before .args .s .geo in (c .after-sync .ensures, (sync-all _ _ (g .s - g .t + 3) _ (omega arith) (c .before .before .before .before .before .before .before .sync-steps .ensures), c .before .before .before .set-word .ensures))
+returns c = let g = c .before .before .before .before .before .before .before .before .before .before .before .before .before .before .before .args .s .geo in let a = sync-all _ _ _ (g .s - g .t + 3) (omega arith) (c .before .before .before .before .before .before .before .sync-steps .ensures) in (c .after-sync .ensures, (a .0, (a .1, c .before .before .before .set-word .ensures)))
 
 pub sync-in-spec : {M : Type 1} → statement M
 sync-in-spec =

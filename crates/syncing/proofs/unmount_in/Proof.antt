@@ -1,7 +1,7 @@
--- All steps, and the working image. Assumes nothing.
+-- All places, and the working image. Assumes nothing.
 use Prim.Native.Nat.{_+_, _-_}
 use native.Mathlib.Omega.{arith}
-use Rattle.store.specs.SyncLaws.{unmount-all}
+use Rattle.store.specs.SyncCounts.{down-all}
 use borrow.Author.Needs.{needs}
 use Rattle.syncing.proofs.unmount_in.Statement.{statement}
 use Rattle.syncing.proofs.unmount_in.Tie as tie
@@ -25,7 +25,7 @@ same-length-2 : tie.Need-same-length-2
 same-length-2 c = search needs
 
 returns : tie.Need-returns
-returns c = let g = c .before .before .before .before .before .before .before .before .before .before .before .before .args .s .geo in (unmount-all _ _ (g .s - g .t + 4) _ (omega arith) (c .before .before .before .before .before .before .unmount-steps .ensures), c .before .before .unmount-work .ensures)
+returns c = let g = c .before .before .before .before .before .before .before .before .before .before .before .before .args .s .geo in let a = down-all _ _ _ (g .s - g .t + 4) (omega arith) (c .before .before .before .before .before .before .unmount-steps .ensures) in (a .0, (a .1, c .before .before .unmount-work .ensures))
 
 pub unmount-in-spec : {M : Type 1} → statement M
 unmount-in-spec =

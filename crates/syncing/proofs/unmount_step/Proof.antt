@@ -1,16 +1,17 @@
--- By whether the session is or becomes worn, and which step it is. Assumes nothing.
+-- By whether the session is or becomes worn, and which place it is. Assumes nothing.
 use mathlib.Core.Path.{_∙_}
 use native.Mathlib.Omega.{arith}
 use denote.Ref.{now}
 use Rattle.sectors.specs.Sectors.{applySteps}
 use Rattle.store.specs.Steps.{downSteps}
 use Rattle.store.specs.SyncLaws.{unmount-worn, unmount-sync, unmount-past, unmount-top, unmount-down}
+use Rattle.store.specs.SyncCounts.{count-rest, counts-live, counts-worn}
 use borrow.Author.Needs.{needs}
 use Rattle.syncing.proofs.unmount_step.Statement.{statement}
 use Rattle.syncing.proofs.unmount_step.Tie as tie
 
 returns : tie.Need-returns
-returns c = let a = c .before .before .before .args in unmount-worn (a .s) (now (a .work)) (a .k) (now (a .card)) (c .if1 .taken)
+returns c = let a = c .before .before .before .args in (unmount-worn (a .s) (now (a .work)) (a .k) (now (a .card)) (c .if1 .taken), (counts-worn (a .s) (now (a .work)) (a .k) (now (a .card)) (c .if1 .taken), omega arith))
 
 sub-synced : tie.Need-sub-synced
 sub-synced c = search needs
@@ -25,13 +26,13 @@ same-length : tie.Need-same-length
 same-length c = search needs
 
 returns-2 : tie.Need-returns-2
-returns-2 c = let a = c .before .before .before .before .before .before .before .before .before .args in unmount-sync (a .s) (now (a .work)) (a .k) (now (a .card)) (c .before .before .before .before .before .before .if1 .left) (omega arith) (c .before .before .sync-step .ensures)
+returns-2 c = let a = c .before .before .before .before .before .before .before .before .before .args in let l = c .before .before .before .before .before .before .if1 .left in let e = c .before .before .sync-step .ensures in (unmount-sync (a .s) (now (a .work)) (a .k) (now (a .card)) l (omega arith) (e .0), (counts-live (a .s) (now (a .work)) (a .k) (now (a .card)) l (e .1 .0), e .1 .1))
 
 returns-3 : tie.Need-returns-3
-returns-3 c = let a = c .before .before .before .before .before .before .args in unmount-past (a .s) (now (a .work)) (a .k) (now (a .card)) (c .before .before .before .if1 .left) (omega arith)
+returns-3 c = let a = c .before .before .before .before .before .before .args in let l = c .before .before .before .if1 .left in (unmount-past (a .s) (now (a .work)) (a .k) (now (a .card)) l (omega arith), (counts-live (a .s) (now (a .work)) (a .k) (now (a .card)) l (count-rest _ _ _ (omega arith) (λ q. omega (arith, q))), omega arith))
 
 returns-4 : tie.Need-returns-4
-returns-4 c = let a = c .before .before .before .before .before .before .before .before .args in unmount-top (a .s) (now (a .work)) (a .k) (now (a .card)) (c .before .before .before .before .before .if1 .left) (omega arith) (c .if4 .taken)
+returns-4 c = let a = c .before .before .before .before .before .before .before .before .args in let l = c .before .before .before .before .before .if1 .left in (unmount-top (a .s) (now (a .work)) (a .k) (now (a .card)) l (omega arith) (c .if4 .taken), (counts-live (a .s) (now (a .work)) (a .k) (now (a .card)) l (count-rest _ _ _ (omega arith) (λ q. omega (arith, q))), omega arith))
 
 down-block-requires : tie.Need-down-block-requires
 down-block-requires c κs = search needs
@@ -47,7 +48,7 @@ same-length-2 c = search needs
 
 returns-5 : tie.Need-returns-5
 unfolding downSteps applySteps
-returns-5 c = let a = c .before .before .before .before .before .before .before .before .before .before .before .before .before .before .args in unmount-down (a .s) (now (a .work)) (a .k) (now (a .card)) (c .before .before .before .before .before .before .before .before .before .before .before .if1 .left) (omega arith) (c .before .before .before .before .before .before .if4 .left) (c .before .before .write-sector .ensures ∙ rw (c .before .before .before .before .before .down-block .ensures))
+returns-5 c = let a = c .before .before .before .before .before .before .before .before .before .before .before .before .before .before .args in let l = c .before .before .before .before .before .before .before .before .before .before .before .if1 .left in (unmount-down (a .s) (now (a .work)) (a .k) (now (a .card)) l (omega arith) (c .before .before .before .before .before .before .if4 .left) (c .before .before .write-sector .ensures ∙ rw (c .before .before .before .before .before .down-block .ensures)), (counts-live (a .s) (now (a .work)) (a .k) (now (a .card)) l (count-rest _ _ _ (omega arith) (λ q. omega (arith, q))), omega arith))
 
 pub unmount-step-spec : {M : Type 1} → statement M
 unmount-step-spec =
