@@ -8,7 +8,7 @@ use native.Mathlib.Omega.{arith}
 use borrow.Author.Tests.{le-leb, lt-leb}
 use Rattle.words.specs.Lists.{eqList}
 use Rattle.sums.specs.Sums.{total}
-use Rattle.sums.specs.SumLaws.{total-same, total-zero, total-split, total-none}
+use Rattle.sums.specs.SumLaws.{total-same, total-zero, total-split, total-front, total-none}
 use Rattle.sectors.specs.Sectors.{sec, Step, write, unless, diffSteps, writesIn, differs, unlike}
 use Rattle.counts.specs.declared.Geo.{Geo}
 use Rattle.counts.specs.GeoLaws.{limits}
@@ -50,15 +50,6 @@ as-before o card work = (sync-alike o card work, unmount-alike o card work)
 
 -- ---- the count
 
--- the first of 1 + n sectors from i up
-front : (card img : List ℕ) (n i : ℕ) → total (λ j. differs card img (i + j)) (1 + n) ≡ differs card img i + total (λ j. differs card img (suc i + j)) n
-unfolding total
-front card img n i =
-    let z : i + 0 ≡ i = omega arith in
-    let b = total-same (λ j. differs card img (i + (1 + j))) (λ j. differs card img (suc i + j)) n
-    (λ j l. let q : i + (1 + j) ≡ suc i + j = omega arith in ap (λ (k : ℕ). differs card img k) q) in
-    total-split (λ j. differs card img (i + j)) 1 n ∙ rw (zero-add, z, b)
-
 -- a write, unless it would change nothing
 unless-count : (b : Bool) (i : ℕ) (s : List ℕ) (r : List Step) → writesIn (unless b (write i s) r) ≡ unlike b + writesIn r
 unfolding unless writesIn
@@ -70,11 +61,14 @@ diff-count : (card img : List ℕ) (n i : ℕ) (r : List Step) → writesIn (dif
 unfolding diffSteps
 diff-count card img zero i r = rw (total-none (λ j. differs card img (i + j))) (sym (zero-add (writesIn r)))
 diff-count card img (suc n) i r =
-    let e : suc n ≡ 1 + n = omega arith in
+    let z : i + 0 ≡ i = omega arith in
     let u : writesIn (unless (eqList (sec card i) (sec img i)) (write i (sec img i)) (diffSteps card img (suc i) n r)) ≡ differs card img i + writesIn (diffSteps card img (suc i) n r) =
     (unfold differs in unless-count (eqList (sec card i) (sec img i)) i (sec img i) (diffSteps card img (suc i) n r)) in
     let h = diff-count card img n (suc i) r in
-    rw (e, front card img n i) (omega arith)
+    let f : total (λ j. differs card img (i + j)) (suc n) ≡ differs card img (i + 0) + total (λ j. differs card img (i + suc j)) n = total-front (λ j. differs card img (i + j)) n in
+    let b = total-same (λ j. differs card img (i + suc j)) (λ j. differs card img (suc i + j)) n
+    (λ j l. let q : i + suc j ≡ suc i + j = omega arith in ap (λ (k : ℕ). differs card img k) q) in
+    rw (f, z, b) (omega arith)
 
 module _ (g : Geo) (card work : List ℕ) where
   at-first : differsAt g card work 0 ≡ differs card work 0
@@ -106,11 +100,11 @@ sync-count s card work h =
     let a = diff-count card work 1 0 (diffSteps card work (s .geo .t + 1) (pastTable s) (tableSteps s work [])) in
     let b = diff-count card work (pastTable s) (s .geo .t + 1) (tableSteps s work []) in
     let c : writesIn (tableSteps s work []) ≡ 1 = (unfold writesIn in refl) in
-    let d : total (λ j. differs card work (0 + j)) 1 ≡ differs card work 0 = front card work 0 0 ∙ zeroth in
+    let d : total (λ j. differs card work (0 + j)) 1 ≡ differs card work (0 + 0) = zeroth in
     omega (arith, differing-is (s .geo) card work h)
   where
-    zeroth : differs card work 0 + total (λ j. differs card work (1 + j)) 0 ≡ differs card work 0
-    zeroth = omega (arith, total-none (λ j. differs card work (1 + j)))
+    zeroth : total (λ j. differs card work (0 + j)) 1 ≡ differs card work (0 + 0)
+    zeroth = omega (arith, total-front (λ j. differs card work (0 + j)) 0, total-none (λ j. differs card work (0 + suc j)))
 
 in-limits : (s : Opened) (work : List ℕ) → Fit s work → s .geo .t < s .geo .s
 in-limits s work F = let L = limits (s .geo) (F .shape) in omega (arith, L .past, L .dir, L .sLow)

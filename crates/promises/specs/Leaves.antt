@@ -1,4 +1,4 @@
--- What land, mount, sync and unmount leave when they give 0: both images sector by sector, and the session; and that seven calls count 0. Stated.
+-- What land, mount, sync and unmount leave when they give 0: both images sector by sector, and the session; and that five calls count 0. Stated.
 -- Assumes nothing.
 use mathlib.Core.Path.{_≡_}
 use mathlib.Core.Bool.{true, false}
@@ -110,12 +110,10 @@ SyncChanges = (s : Opened) (card work : List ℕ) → sync (Open s) card work .a
 abbrev pub UnmountChanges : Type 0
 UnmountChanges = (s : Opened) (card work : List ℕ) → unmount (Open s) card work .answer .number ≡ 0 → UnmountLeaves s card work (unmount (Open s) card work)
 
--- "the other session calls, make and mount count 0"; with a refusal they count 0 too. A sync that counts c is refused here
+-- "the other session calls, make and mount count 0", sync and unmount aside, whose count `Counts` (Fewer) states; with a refusal they count 0 too
 pub record CountsNothing : Type 0 where
   pub ofMake : (g : Geo) (card : List ℕ) → make g card .answer .count ≡ 0
   pub ofMount : (card work : List ℕ) → mount card work .answer .count ≡ 0
   pub ofPut : (s : Session) (work n d : List ℕ) → put s work n d .answer .count ≡ 0
   pub ofRemove : (s : Session) (work n : List ℕ) → remove s work n .answer .count ≡ 0
   pub ofLand : (s : Session) (card work : List ℕ) (i : ℕ) → land s card work i .answer .count ≡ 0
-  pub ofSync : (s : Session) (card work : List ℕ) → sync s card work .answer .count ≡ 0
-  pub ofUnmount : (s : Session) (card work : List ℕ) → unmount s card work .answer .count ≡ 0

@@ -1,4 +1,4 @@
--- What land, mount, sync and unmount leave, and that seven calls count 0: proved. Assumes nothing.
+-- What land, mount, sync and unmount leave, and that five calls count 0: proved. Assumes nothing.
 use mathlib.Core.Path.{_≡_, refl, _∙_}
 use mathlib.Core.List.{List}
 use Prim.Native.Nat.{ℕ, _+_, _-_, _*_, _^_, _<_}
@@ -23,7 +23,7 @@ use Rattle.store.specs.Steps.{setCount, mountSteps}
 use Rattle.store.specs.StepLaws.{count-length, count-here, count-count}
 use Rattle.store.specs.Mount.{Ended, openedFrom, mountDone, mount}
 use Rattle.store.specs.Edit.{put, remove}
-use Rattle.store.specs.Sync.{bothPlan, land, syncDone, sync, unmountDone, unmount}
+use Rattle.store.specs.Sync.{bothPlan, land, sync, unmount}
 use Rattle.store.specs.Plans.{both-inv, both-num, mount-few, mount-good, mount-num, sync-live}
 use Rattle.promises.specs.Play.{copied}
 use Rattle.promises.specs.Steady.{through}
@@ -135,16 +135,6 @@ unfolding land refused done
 count-land Closed card work i = refl
 count-land (Open s) card work i = counts-none (λ (r : Changed). r .answer .count) _ _ (λ k. refl) (λ j a. refl) _
 
-count-sync : (s : Session) (card work : List ℕ) → sync s card work .answer .count ≡ 0
-unfolding sync syncDone refused done
-count-sync Closed card work = refl
-count-sync (Open s) card work = counts-none (λ (r : Ended). r .answer .count) _ _ (λ k. refl) (λ j a. refl) _
-
-count-unmount : (s : Session) (card work : List ℕ) → unmount s card work .answer .count ≡ 0
-unfolding unmount unmountDone refused done
-count-unmount Closed card work = refl
-count-unmount (Open s) card work = counts-none (λ (r : Ended). r .answer .count) _ _ (λ k. refl) (λ j a. refl) _
-
 pub counts-nothing : CountsNothing
 counts-nothing =
     record {
@@ -153,6 +143,4 @@ counts-nothing =
       ofPut = count-put;
       ofRemove = count-remove;
       ofLand = count-land;
-      ofSync = count-sync;
-      ofUnmount = count-unmount;
     }

@@ -18,7 +18,8 @@ use Rattle.counts.specs.GeoLaws.{Limits, limits}
 use Rattle.counts.specs.Stamps.{maxTx}
 use Rattle.session.specs.declared.Opened.{Opened}
 use Rattle.session.specs.FitLaws.{Fit}
-use Rattle.store.specs.Steps.{setWord, tableSector, syncSteps, syncWork, atTop}
+use Rattle.store.specs.Steps.{setWord, tableSector, syncSteps, allSteps, syncWork, atTop}
+use Rattle.store.specs.SyncFewer.{sync-same-card}
 use Rattle.store.specs.StepLaws.{word-length, word-other, word-table, table-sector}
 use Rattle.store.specs.Sync.{grown, syncDone}
 use Rattle.promises.specs.Play.{Copied, copied}
@@ -69,15 +70,15 @@ module _ (s : Opened) (card work : List ℕ) (l : length card ≡ 512 * s .geo .
     pub ends : out ≡ applySteps r card′
     pub images : BothSynced s card work (sec work 0) card′ now
 
-  pub done-by : (r : List Step) → Done r (applySteps (syncSteps s work r) card)
-  unfolding syncSteps
-  done-by r = one (copied (g .s) 1 0 work card _ l (F .sized) (omega (arith, L .sLow)))
+  pub done-by : (r : List Step) → Done r (applySteps (syncSteps s card work r) card)
+  unfolding allSteps
+  done-by r = rw (sync-same-card s card work r) (one (copied (g .s) 1 0 work card _ l (F .sized) (omega (arith, L .sLow))))
     where
       tail : List Step
       tail = settle ∷ write ts (sec now ts) ∷ settle ∷ r
 
       out : List ℕ
-      out = applySteps (syncSteps s work r) card
+      out = applySteps (allSteps s work r) card
 
       two : (A : Copied (g .s) 0 1 work card (copySteps work (g .t + 1) (g .s - g .t - 1) tail) out)
           → Copied (g .s) (g .t + 1) (g .s - g .t - 1) work (A .card′) tail (applySteps (copySteps work (g .t + 1) (g .s - g .t - 1) tail) (A .card′)) → Done r out
@@ -126,8 +127,8 @@ module _ (s : Opened) (card work : List ℕ) (l : length card ≡ 512 * s .geo .
   unfolding atTop
   at-top h = eq-eqb (s .t .0) maxTx h
 
-  pub synced : BothSynced s card work (sec work 0) (applySteps (syncSteps s work []) card) now
-  synced = let D = done-by [] in let e : applySteps (syncSteps s work []) card ≡ D .card′ = D .ends ∙ (unfold applySteps in refl) in rw e (D .images)
+  pub synced : BothSynced s card work (sec work 0) (applySteps (syncSteps s card work []) card) now
+  synced = let D = done-by [] in let e : applySteps (syncSteps s card work []) card ≡ D .card′ = D .ends ∙ (unfold applySteps in refl) in rw e (D .images)
 
   pub sync-done : SyncLeaves s card work (syncDone s card work)
   unfolding syncDone syncWork

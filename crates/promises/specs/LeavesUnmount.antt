@@ -86,28 +86,28 @@ module _ (s : Opened) (card work : List ℕ) (l : length card ≡ 512 * s .geo .
       there = set-there (g .s) k (sec back 0) 0 w (pos s card work l F) wd
 
   -- the steps of an unmount that syncs, and its working image
-  unmount-is : {b : Bool} → s .worn ≡ false → atTop s ≡ b → (unmountSteps s work ≡ syncSteps s work (downSteps b s now)) × (unmountWork s work ≡ downWork b s now)
+  unmount-is : {b : Bool} → s .worn ≡ false → atTop s ≡ b → (unmountSteps s card work ≡ syncSteps s card work (downSteps b s now)) × (unmountWork s work ≡ downWork b s now)
   unfolding unmountSteps unmountStepsBy unmountWork unmountWorkBy syncWork
   unmount-is live q = (
-    ap (λ (x : Bool). unmountStepsBy x s work) live ∙ ap (λ (x : Bool). syncSteps s work (downSteps x s now)) q,
+    ap (λ (x : Bool). unmountStepsBy x s card work) live ∙ ap (λ (x : Bool). syncSteps s card work (downSteps x s now)) q,
     ap (λ (x : Bool). unmountWorkBy x s work) live ∙ ap (λ (x : Bool). downWork x s now) q,
   )
 
   -- the three ends of an unmount: the count goes back, the session becomes worn, the session is worn
   down-done : s .worn ≡ false → s .t .0 < maxTx
-      → BothSynced s card work (withCount (s .c .0) (sec work 0)) (applySteps (unmountSteps s work) card) (unmountWork s work)
+      → BothSynced s card work (withCount (s .c .0) (sec work 0)) (applySteps (unmountSteps s card work) card) (unmountWork s work)
   unfolding downSteps downWork
   down-done live h =
       let D = done-by s card work l F (write 0 (sec back 0) ∷ []) in
-      let e : applySteps (syncSteps s work (write 0 (sec back 0) ∷ [])) card ≡ setSec (D .card′) 0 (sec back 0) = D .ends ∙ (unfold applySteps in refl) in
+      let e : applySteps (syncSteps s card work (write 0 (sec back 0) ∷ [])) card ≡ setSec (D .card′) 0 (sec back 0) = D .ends ∙ (unfold applySteps in refl) in
       let (u, v) = unmount-is live (below s card work l F h) in
       rw (u, v, e) (returned (D .card′) (D .images))
 
-  top-done : s .worn ≡ false → s .t .0 ≡ maxTx → BothSynced s card work (sec work 0) (applySteps (unmountSteps s work) card) (unmountWork s work)
+  top-done : s .worn ≡ false → s .t .0 ≡ maxTx → BothSynced s card work (sec work 0) (applySteps (unmountSteps s card work) card) (unmountWork s work)
   unfolding downSteps downWork
   top-done live h = let (u, v) = unmount-is live (at-top s card work l F h) in rw (u, v) (synced s card work l F)
 
-  worn-done : s .worn ≡ true → (applySteps (unmountSteps s work) card ≡ card) × (unmountWork s work ≡ work)
+  worn-done : s .worn ≡ true → (applySteps (unmountSteps s card work) card ≡ card) × (unmountWork s work ≡ work)
   unfolding unmountSteps unmountStepsBy unmountWork unmountWorkBy applySteps
   worn-done w = rw w (refl, refl)
 

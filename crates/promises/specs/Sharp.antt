@@ -1,18 +1,18 @@
 -- A cut inside unmount, sharper than demand 3: once its sync has finished, the card reads as what the session showed, and as nothing else. Assumes nothing.
 use mathlib.Core.Path.{_≡_, refl, sym, ap, _∙_, subst}
 use mathlib.Core.Bool.{Bool, true, false}
-use mathlib.Core.List.{List, [], _∷_}
+use mathlib.Core.List.{List, []}
 use Prim.Native.Nat.{ℕ, zero, suc, _+_, _-_, _*_, _≤_}
 use native.Mathlib.Omega.{arith}
-use native.Mathlib.Nat.{zero-add, suc-add}
 use lib.ListN.{length, take}
-use Rattle.sectors.specs.Sectors.{sec, Step, write, settle, copySteps}
-use Rattle.sectors.specs.SectorLaws.{copy-length}
+use lib.Seq.{take-append-add}
+use Rattle.sectors.specs.Sectors.{Step}
 use Rattle.session.specs.declared.Opened.{Opened}
 use Rattle.session.specs.declared.Session.{Session}
 use Rattle.session.specs.declared.Session.the-variants.{Open}
 use Rattle.session.specs.FitLaws.{Fit, fit-inv}
-use Rattle.store.specs.Steps.{setWord, tableSector, syncSteps, atTop, downSteps, unmountStepsBy, unmountSteps}
+use Rattle.store.specs.Steps.{setWord, syncSteps, atTop, downSteps, unmountStepsBy, unmountSteps}
+use Rattle.store.specs.SyncFewer.{sync-append}
 use Rattle.store.specs.Sync.{unmount}
 use Rattle.promises.specs.PlainList.{Item, shownIn}
 use Rattle.promises.specs.History.{Pending, play, settled, Left, World, byNumber, before, unmountsBy, stepsOf, pendingIn, unmountC, Reach, Reads}
@@ -30,37 +30,15 @@ use Rattle.promises.specs.SyncEnd.{down-calm}
 -- after the whole sync of an unmount: sector 0 may or may not have its count c, and either way the card reads as what the session showed
 abbrev pub UnmountSharp : Type 0
 UnmountSharp = (w : World) → Reach w → (s : Opened) → w .session ≡ Open s → s .worn ≡ false → unmount (w .session) (w .card) (w .work) .answer .number ≡ 0
-    → (n : ℕ) → length (syncSteps s (w .work) []) ≤ n → (card : List ℕ) → Left (pendingIn unmountC n w) (length (w .card)) card
+    → (n : ℕ) → length (syncSteps s (w .card) (w .work) []) ≤ n → (card : List ℕ) → Left (pendingIn unmountC n w) (length (w .card)) card
     → Reads card (shownIn (w .session) (w .work))
 
 -- ---- proved
 
--- copies stand in front of what follows them
-take-copy : (img : List ℕ) (i n m : ℕ) (r : List Step) → take (n + m) (copySteps img i n r) ≡ copySteps img i n (take m r)
-unfolding copySteps
-take-copy img i zero m r = simp zero-add
-take-copy img i (suc n) m r = simp suc-add (ap (λ (l : List Step). write i (sec img i) ∷ l) (take-copy img (suc i) n m r))
-
-sync-length : (s : Opened) (work : List ℕ) → length (syncSteps s work []) ≡ 1 + (s .geo .s - s .geo .t - 1 + 3)
-unfolding syncSteps
-sync-length s work = copy-length work 0 1 _ ∙ ap (λ (n : ℕ). 1 + n) (copy-length work (s .geo .t + 1) (s .geo .s - s .geo .t - 1) _)
-
--- the table sector between its two barriers
-abbrev tableSteps : Opened → List ℕ → List Step → List Step
-tableSteps s work r = settle ∷ write (tableSector (s .c .0)) (sec (setWord (s .c .0) (s .t .0) work) (tableSector (s .c .0))) ∷ settle ∷ r
-
 -- a sync stands in front of what follows it
-take-sync : (s : Opened) (work : List ℕ) (k : ℕ) (r : List Step) → take (1 + (s .geo .s - s .geo .t - 1 + (3 + k))) (syncSteps s work r) ≡ syncSteps s work (take k r)
-unfolding syncSteps
-take-sync s work k r =
-    take-copy work 0 1 (past + (3 + k)) (copySteps work (s .geo .t + 1) past (tableSteps s work r))
-    ∙ ap (copySteps work 0 1) (take-copy work (s .geo .t + 1) past (3 + k) (tableSteps s work r) ∙ ap (copySteps work (s .geo .t + 1) past) three)
-  where
-    past : ℕ
-    past = s .geo .s - s .geo .t - 1
-
-    three : take (3 + k) (tableSteps s work r) ≡ tableSteps s work (take k r)
-    three = let e : 3 + k ≡ suc (suc (suc k)) = omega arith in rw e
+take-sync : (s : Opened) (card work : List ℕ) (k : ℕ) (r : List Step) → take (length (syncSteps s card work []) + k) (syncSteps s card work r) ≡ syncSteps s card work (take k r)
+take-sync s card work k r =
+    ap (take (length (syncSteps s card work []) + k)) (sync-append s card work r) ∙ take-append-add (syncSteps s card work []) r k ∙ sym (sync-append s card work (take k r))
 
 module _ (s : Opened) (card work : List ℕ) (p : Pending) (m : List Item) (V₀ : Live s card work p m) (F : Fit s work) (live : s .worn ≡ false) where
   abbrev now : List ℕ
@@ -75,24 +53,24 @@ module _ (s : Opened) (card work : List ℕ) (p : Pending) (m : List Item) (V₀
   behind false q (suc zero) c x = calm-reads (s .geo) _ _ _ (down-calm s card work p m V₀ F live (not-top s (F .tx) q)) c x
   behind false q (suc (suc k)) c x = calm-reads (s .geo) _ _ _ (down-calm s card work p m V₀ F live (not-top s (F .tx) q)) c x
 
-  sharp : (n : ℕ) → length (syncSteps s work []) ≤ n → (c : List ℕ) → Left (play (take n (unmountSteps s work)) p) (512 * s .geo .s) c → Reads c (shownIn (Open s) work)
-  sharp n h c x = behind (atTop s) refl k c (rw (steps, e, take-sync s work k down, sync-play s card work p m V₀ F live (take k down)) at x)
+  sharp : (n : ℕ) → length (syncSteps s card work []) ≤ n → (c : List ℕ) → Left (play (take n (unmountSteps s card work)) p) (512 * s .geo .s) c → Reads c (shownIn (Open s) work)
+  sharp n h c x = behind (atTop s) refl k c (rw (steps, e, take-sync s card work k down, sync-play s card work p m V₀ F live (take k down)) at x)
     where
       down : List Step
       down = downSteps (atTop s) s now
 
       k : ℕ
-      k = n - (1 + (s .geo .s - s .geo .t - 1 + 3))
+      k = n - length (syncSteps s card work [])
 
-      e : n ≡ 1 + (s .geo .s - s .geo .t - 1 + (3 + k))
-      e = omega (arith, sync-length s work)
+      e : n ≡ length (syncSteps s card work []) + k
+      e = omega arith
 
-      steps : unmountSteps s work ≡ syncSteps s work down
-      steps = unfold unmountSteps unmountStepsBy in ap (λ (x : Bool). unmountStepsBy x s work) live
+      steps : unmountSteps s card work ≡ syncSteps s card work down
+      steps = unfold unmountSteps unmountStepsBy in ap (λ (x : Bool). unmountStepsBy x s card work) live
 
 -- at a world of a history
 sharp-at : (s : Opened) (card work : List ℕ) (p : Pending) (m : List Item) → Reach (mk card work (Open s) p m) → s .worn ≡ false
-    → unmount (Open s) card work .answer .number ≡ 0 → (n : ℕ) → length (syncSteps s work []) ≤ n → (c : List ℕ)
+    → unmount (Open s) card work .answer .number ≡ 0 → (n : ℕ) → length (syncSteps s card work []) ≤ n → (c : List ℕ)
     → Left (pendingIn unmountC n (mk card work (Open s) p m)) (length card) c → Reads c (shownIn (Open s) work)
 unfolding pendingIn before stepsOf unmountsBy byNumber
 sharp-at s card work p m r live z n h c x =

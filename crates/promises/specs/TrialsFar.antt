@@ -100,7 +100,7 @@ module _ (n : ℕ) (f : Far n) where
   unfolding syncWork img
   far-work = word-again 0 n (n + 1) start
 
-  pub far-card : applySteps (syncSteps (stretch (n + 1)) (img n) []) (img n) ≡ img (n + 1)
+  pub far-card : applySteps (syncSteps (stretch (n + 1)) (img n) (img n) []) (img n) ≡ img (n + 1)
   far-card = sync-card (stretch (n + 1)) (img n) (img n) (f .p) (f .m) live F refl [] ∙ (unfold applySteps syncWork in far-work)
 
   grows : n + 1 < maxTx → grown (atTop (stretch (n + 1))) (stretch (n + 1)) ≡ stretch (n + 1 + 1)
@@ -117,7 +117,7 @@ module _ (n : ℕ) (f : Far n) where
   far-next : n + 1 < maxTx → Far (n + 1)
   far-next h =
       record {
-        p = play (syncSteps (stretch (n + 1)) (img n) []) (f .p);
+        p = play (syncSteps (stretch (n + 1)) (img n) (img n) []) (f .p);
         m = shownIn (Open (stretch (n + 1))) (img n);
         reach = rw (far-card, far-work, grows h) at (subst Reach (sync-done (stretch (n + 1)) (img n) (img n) (f .p) (f .m) far-goes) (call (f .reach) syncC));
         plain = ap (lookup b) (rw (far-work, grows h) at still) ∙ f .plain;

@@ -85,7 +85,7 @@ unfoldable pub onSync : Session → List ℕ → List ℕ → Ended
 onSync Closed card work = record { answer = refused 4; session = Closed; card = card; work = work }
 onSync (Open s) card work =
     ended (bothPlan s card work (guard 9 (not (s .worn)) (doIt 0 0))) (λ k. record { answer = refused k; session = Open s; card = card; work = work })
-    (λ j i. record { answer = done 0; session = Open (grown false s); card = applySteps (syncSteps s work []) card; work = syncWork s work })
+    (λ j i. record { answer = done 0; session = Open (grown false s); card = applySteps (syncSteps s card work []) card; work = syncWork s work })
 
 -- and its put does not ask whether t has passed the top
 unfoldable pub onPlan : Opened → List ℕ → List ℕ → List ℕ → Plan

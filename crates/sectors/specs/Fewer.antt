@@ -2,7 +2,7 @@
 use mathlib.Core.Path.{_≡_, refl, sym, ap, _∙_}
 use mathlib.Core.Bool.{Bool, true, false}
 use mathlib.Core.Logic.{_≢_}
-use mathlib.Core.List.{List, [], _∷_}
+use mathlib.Core.List.{List, [], _∷_, _++_}
 use Prim.Native.Nat.{ℕ, zero, suc, _+_, _*_, _≤_, _<_}
 use native.Mathlib.Nat.{zero-add, add-zero, add-suc, suc-add}
 use native.Mathlib.Numerals.{add-one}
@@ -119,6 +119,11 @@ unfolding copySteps leanWrites
 count-behind img i zero n k r card = rw (zero-add n, zero-add k)
 count-behind img i (suc c) n k r card = rw (suc-add c n, suc-add c k) (count-behind img (suc i) c n k r card)
 
+pub copy-append : (img : List ℕ) (i n : ℕ) (a r : List Step) → copySteps img i n (a ++ r) ≡ copySteps img i n a ++ r
+unfolding copySteps
+copy-append img i zero a r = refl
+copy-append img i (suc n) a r = ap (λ (l : List Step). write i (sec img i) ∷ l) (copy-append img (suc i) n a r)
+
 -- ---- what is left of a copy are the writes of the sectors that differ from the card's
 
 sec-short : (img : List ℕ) (i : ℕ) → length (sec img i) ≤ 512
@@ -151,3 +156,15 @@ lean-copy (suc n) i m card img r =
     rw (suc-add n m)
     (ap (λ (l : List Step). unless (eqList (sec card i) (sec img i)) (write i (sec img i)) l)
     (lean-copy n (suc i) m (setSec card i (sec img i)) img r ∙ diff-same n (suc i) i card img (sec img i) _ (sec-short img i) (omega arith)))
+
+unless-append : (b : Bool) (x : Step) (a r : List Step) → unless b x (a ++ r) ≡ unless b x a ++ r
+unfolding unless
+unless-append true x a r = refl
+unless-append false x a r = refl
+
+pub diff-append : (card img : List ℕ) (i n : ℕ) (a r : List Step) → diffSteps card img i n (a ++ r) ≡ diffSteps card img i n a ++ r
+unfolding diffSteps
+diff-append card img i zero a r = refl
+diff-append card img i (suc n) a r =
+    ap (λ (l : List Step). unless (eqList (sec card i) (sec img i)) (write i (sec img i)) l) (diff-append card img (suc i) n a r)
+    ∙ unless-append (eqList (sec card i) (sec img i)) (write i (sec img i)) (diffSteps card img (suc i) n a) r

@@ -2,14 +2,14 @@
 use mathlib.Core.Path.{_≡_, refl, sym, ap, _∙_}
 use mathlib.Core.Bool.{Bool, true, false}
 use mathlib.Core.Logic.{_≢_}
-use mathlib.Core.List.{List, [], _∷_, _++_}
+use mathlib.Core.List.{List, [], _++_}
 use Prim.Native.Nat.{ℕ, zero, suc, _+_, _-_, _≤_, _<_}
 use native.Mathlib.Omega.{arith}
 use native.Mathlib.Decide.{decLt}
 use lib.ListN.{length, take}
 use lib.Seq.{take-append-le}
-use Rattle.sectors.specs.Sectors.{sec, Step, write, applySteps, copySteps, writesIn, differs, lean, leanWrites}
-use Rattle.sectors.specs.Fewer.{lean-first, count-copy, count-behind, count-turn}
+use Rattle.sectors.specs.Sectors.{Step, applySteps, copySteps, writesIn, differs, lean, leanWrites}
+use Rattle.sectors.specs.Fewer.{lean-first, copy-append, count-copy, count-behind, count-turn}
 use Rattle.session.specs.declared.Opened.{Opened}
 use Rattle.store.specs.Steps.{pastTable, tableSteps, syncSteps, allSteps, unmountSteps, allDownBy, allDown, syncedAt, downAt, writtenAt, countedAt, countedBy, unmountCount}
 use Rattle.store.specs.SyncLaws.{sync-length}
@@ -74,11 +74,6 @@ written-turn s work k card₀ card w r e f g =
     count-turn (pastTable s + 1) k (allSteps s work []) card₀ card w r e (f ∙ at-lean s card₀ work k) g ∙ sym (at-lean s card₀ work (k + 1))
 
 -- ---- and of unmount's: sync's count, as far as sync goes; none of a worn session
-
-copy-append : (img : List ℕ) (i n : ℕ) (a r : List Step) → copySteps img i n (a ++ r) ≡ copySteps img i n a ++ r
-unfolding copySteps
-copy-append img i zero a r = refl
-copy-append img i (suc n) a r = ap (λ (l : List Step). write i (sec img i) ∷ l) (copy-append img (suc i) n a r)
 
 -- the first steps are the same whatever stands behind them
 first-same : (s : Opened) (work : List ℕ) (r : List Step) (k : ℕ) → k ≤ pastTable s + 4 → take k (allSteps s work r) ≡ take k (allSteps s work [])

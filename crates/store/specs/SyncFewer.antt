@@ -1,13 +1,13 @@
 -- Sync and unmount where the writes that would change nothing are left out: the same card, and how far they are after so many places. Assumes nothing.
 use mathlib.Core.Path.{_≡_, refl, sym, ap, _∙_}
 use mathlib.Core.Bool.{Bool, true, false}
-use mathlib.Core.List.{List, []}
+use mathlib.Core.List.{List, [], _++_}
 use Prim.Native.Nat.{ℕ, suc, _+_, _-_, _≤_}
 use native.Mathlib.Omega.{arith}
 use lib.ListN.{length, take}
 use lib.Seq.{take-all}
 use Rattle.sectors.specs.Sectors.{Step, applySteps, copySteps, diffSteps, lean}
-use Rattle.sectors.specs.Fewer.{lean-apply, lean-first, lean-copy, diff-behind}
+use Rattle.sectors.specs.Fewer.{lean-apply, lean-first, lean-copy, diff-behind, diff-append}
 use Rattle.session.specs.declared.Opened.{Opened}
 use Rattle.store.specs.Steps.{pastTable, tableSteps, syncSteps, allSteps, unmountStepsBy, unmountSteps, allDownBy, allDown, syncedAt, downAt}
 use Rattle.store.specs.SyncLaws.{sync-length, unmount-length}
@@ -39,6 +39,13 @@ down-lean-by false s card work = sync-lean s card work _
 pub down-lean : (s : Opened) (card work : List ℕ) → lean (pastTable s + 1) card (allDown s work) ≡ unmountSteps s card work
 unfolding allDown unmountSteps
 down-lean s card work = down-lean-by (s .worn) s card work
+
+-- what stands behind a sync stands behind its steps
+pub sync-append : (s : Opened) (card work : List ℕ) (r : List Step) → syncSteps s card work r ≡ syncSteps s card work [] ++ r
+unfolding syncSteps
+sync-append s card work r =
+    ap (diffSteps card work 0 1) (diff-append card work (s .geo .t + 1) (pastTable s) (tableSteps s work []) r)
+    ∙ diff-append card work 0 1 (diffSteps card work (s .geo .t + 1) (pastTable s) (tableSteps s work [])) r
 
 -- ---- the card is that of the full copy, for every input
 
