@@ -86,7 +86,7 @@ pub fn land(session: Session, card: &mut [u8], work: &[u8], i: Sector) -> Answer
     success(0)
 }
 
-// "sync 4, 1, 2, 9"
+// "sync 4, 1, 2, 9", with the number of sectors written
 pub fn sync(session: Session, card: &mut [u8], work: &mut [u8]) -> Outcome
     ensures { λ r. ⌜ (r .answer ≡ sync session (now (card .entry)) (now (work .entry)) .answer) × ((r .session ≡ sync session (now (card .entry)) (now (work .entry)) .session) × ((now (card .exit) ≡ sync session (now (card .entry)) (now (work .entry)) .card) × (now (work .exit) ≡ sync session (now (card .entry)) (now (work .entry)) .work))) ⌝ }
 {
@@ -104,14 +104,15 @@ pub fn sync(session: Session, card: &mut [u8], work: &mut [u8]) -> Outcome
         return stays(session, 9);
     }
     let next = sync_in(s, card, work);
-    let answer = success(0);
+    let after = next.session;
+    let answer = success(next.written);
     Outcome {
         answer,
-        session: Session::Open(next),
+        session: Session::Open(after),
     }
 }
 
-// "unmount 4, 1, 2"
+// "unmount 4, 1, 2", with the number of sectors its sync wrote
 pub fn unmount(session: Session, card: &mut [u8], work: &mut [u8]) -> Outcome
     ensures { λ r. ⌜ (r .answer ≡ unmount session (now (card .entry)) (now (work .entry)) .answer) × ((r .session ≡ unmount session (now (card .entry)) (now (work .entry)) .session) × ((now (card .exit) ≡ unmount session (now (card .entry)) (now (work .entry)) .card) × (now (work .exit) ≡ unmount session (now (card .entry)) (now (work .entry)) .work))) ⌝ }
 {
@@ -125,8 +126,8 @@ pub fn unmount(session: Session, card: &mut [u8], work: &mut [u8]) -> Outcome
     if !fit {
         return stays(session, 2);
     }
-    unmount_in(s, card, work);
-    let answer = success(0);
+    let written = unmount_in(s, card, work);
+    let answer = success(written);
     Outcome {
         answer,
         session: Session::Closed,

@@ -87,9 +87,14 @@ changes (call {w} r c) = changesBy c w (changes r)
 changes (cut r card work l) = 0
 changes (cutIn r c n card work l) = 0
 
+-- the pairs of apages of the card that a session is open on
+unfoldable pub pairsOf : Session → ℕ
+pairsOf Closed = 0
+pairsOf (Open s) = gP (s .geo)
+
 -- "plus P + 2. A sync with no change writes exactly 1." in every history: one card, one working image, and nothing but our calls on them
 pub record Bounds : Type 0 where
-  pub ofSync : {w : World} (r : Reach w) (s : Opened) → w .session ≡ Open s → sync (Open s) (w .card) (w .work) .answer .count ≤ changes r + gP (s .geo) + 2
-  pub ofUnmount : {w : World} (r : Reach w) (s : Opened) → w .session ≡ Open s → unmount (Open s) (w .card) (w .work) .answer .count ≤ changes r + gP (s .geo) + 2
-  pub noChange : {w : World} (r : Reach w) (s : Opened) → w .session ≡ Open s → changes r ≡ 0
-      → sync (Open s) (w .card) (w .work) .answer .number ≡ 0 → sync (Open s) (w .card) (w .work) .answer .count ≡ 1
+  pub ofSync : {w : World} (r : Reach w) → sync (w .session) (w .card) (w .work) .answer .count ≤ changes r + pairsOf (w .session) + 2
+  pub ofUnmount : {w : World} (r : Reach w) → unmount (w .session) (w .card) (w .work) .answer .count ≤ changes r + pairsOf (w .session) + 2
+  pub noChange : {w : World} (r : Reach w) → changes r ≡ 0 → sync (w .session) (w .card) (w .work) .answer .number ≡ 0
+      → sync (w .session) (w .card) (w .work) .answer .count ≡ 1

@@ -79,6 +79,11 @@ module _ (g : Geo) (card work : List ℕ) where
   unfolding differsAt
   at-table i lo hi = rw (le-leb 1 i lo, le-leb i (g .t) hi)
 
+  -- sector 0 and the table, where sector 0 does not differ
+  pub at-low : (i : ℕ) → i ≤ g .t → differs card work 0 ≡ 0 → differsAt g card work i ≡ 0
+  at-low zero h z = at-first ∙ z
+  at-low (suc i) h z = at-table (suc i) (omega arith) h
+
   pub at-past : (i : ℕ) → g .t < i → differsAt g card work i ≡ differs card work i
   unfolding differsAt
   at-past i h = let one : 1 ≤ i = omega arith in rw (le-leb 1 i one, lt-leb i (g .t) h)
@@ -121,6 +126,13 @@ unfolding sync syncDone refused done
 of-sync s card work =
     counts-plan _ _ _ (both-num s card work (guard-num 8 _ (go! 0 0))) (λ k. refl)
     (λ j a e. sync-count s card work (in-limits s work (sync-live s card work e .0)))
+
+-- a sync that gives 0 is not of a worn session
+pub sync-not-worn : (s : Opened) (card work : List ℕ) → sync (Open s) card work .answer .number ≡ 0 → s .worn ≡ false
+unfolding sync refused
+sync-not-worn s card work =
+    passing (λ (r : Ended). r .answer .number ≡ 0 → s .worn ≡ false) _ _ (both-num s card work (guard-num 8 _ (go! 0 0))) (λ k h. absurd (omega (arith, h)))
+    (λ j a e h. sync-live s card work e .1)
 
 of-unmount : (s : Opened) (card work : List ℕ) → s .worn ≡ false → unmount (Open s) card work .answer .number ≡ 0 → unmount (Open s) card work .answer .count ≡ differing (s .geo) card work + 1
 unfolding unmount unmountDone unmountCount countedBy refused done

@@ -66,6 +66,10 @@ pub mod Possible
 pub mod ReadsReads
 pub mod Fewer
 pub mod FewerProved
+pub mod Touched
+pub mod TouchedAll
+pub mod FewDiffer
+pub mod BoundProved
 pub mod TrialsCard
 pub mod TrialsRun
 pub mod Trials

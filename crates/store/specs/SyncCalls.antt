@@ -45,11 +45,11 @@ module _ (s : Opened) (card work : List ℕ) {o : Session} (eo : o ≡ Open s) w
   unfolding guard
   sync-9 d z w = sync-stop (both-ok s card work _ d z ∙ guard-no 9 _ (ap not w))
 
-  pub sync-done : {a : Answer} {p : Session} {n : Opened} {x y : List ℕ} → length card ≡ 512 * s .geo .s → fits s work ≡ true → s .worn ≡ false → a ≡ done (writesIn (syncSteps s card work [])) → p ≡ Open n
-      → (n ≡ grown (atTop s) s) × ((x ≡ applySteps (syncSteps s card work []) card) × (y ≡ syncWork s work)) → Ends (sync o card work) a p x y
+  pub sync-done : {a : Answer} {p : Session} {n : Opened} {w : ℕ} {x y : List ℕ} → length card ≡ 512 * s .geo .s → fits s work ≡ true → s .worn ≡ false → a ≡ done w → p ≡ Open n
+      → (n ≡ grown (atTop s) s) × ((w ≡ writesIn (syncSteps s card work [])) × ((x ≡ applySteps (syncSteps s card work []) card) × (y ≡ syncWork s work))) → Ends (sync o card work) a p x y
   unfolding guard ended syncDone
   sync-done d z w f g h =
-      ends _ (sync-by (both-ok s card work _ d z ∙ guard-yes 9 _ (ap not w))) f (g ∙ ap Open (h .0)) (h .1 .0) (h .1 .1)
+      ends _ (sync-by (both-ok s card work _ d z ∙ guard-yes 9 _ (ap not w))) (f ∙ ap done (h .1 .0)) (g ∙ ap Open (h .0)) (h .1 .1 .0) (h .1 .1 .1)
 
 -- ---- unmount
 
@@ -75,7 +75,7 @@ module _ (s : Opened) (card work : List ℕ) {o : Session} (eo : o ≡ Open s) w
   pub unmount-2 : {a : Answer} {p : Session} → length card ≡ 512 * s .geo .s → fits s work ≡ false → (a ≡ refused 2) × (p ≡ Open s) → Ends (unmount o card work) a p card work
   unmount-2 d z = unmount-stop (both-2 s card work _ d z)
 
-  pub unmount-done : {a : Answer} {p : Session} {x y : List ℕ} → length card ≡ 512 * s .geo .s → fits s work ≡ true → a ≡ done (unmountCount s card work) → p ≡ Closed
-      → (x ≡ applySteps (unmountSteps s card work) card) × (y ≡ unmountWork s work) → Ends (unmount o card work) a p x y
+  pub unmount-done : {a : Answer} {p : Session} {w : ℕ} {x y : List ℕ} → length card ≡ 512 * s .geo .s → fits s work ≡ true → a ≡ done w → p ≡ Closed
+      → (w ≡ unmountCount s card work) × ((x ≡ applySteps (unmountSteps s card work) card) × (y ≡ unmountWork s work)) → Ends (unmount o card work) a p x y
   unfolding ended unmountDone
-  unmount-done d z f g h = ends _ (unmount-by (both-ok s card work _ d z)) f g (h .0) (h .1)
+  unmount-done d z f g h = ends _ (unmount-by (both-ok s card work _ d z)) (f ∙ ap done (h .0)) g (h .1 .0) (h .1 .1)
