@@ -65,7 +65,7 @@ same-length-4 : tie.Need-same-length-4
 same-length-4 c = search needs
 
 returns-5 : tie.Need-returns-5
-returns-5 c = sync-done _ _ _ (c .before .before .before .before .before .before .before .before .before .before .before .before .before .before .before .session .given .1) (c .before .before .before .before .before .before .before .before .before .before .before .before .if1 .left) (passed (c .before .before .before .before .before .before .before .before .before .before .fits2 .ensures) (c .before .before .before .before .before .before .before .before .before .if2 .left)) (c .before .before .before .before .before .before .before .before .if3 .left) (c .success .ensures) refl (c .before .before .before .before .before .sync-in .ensures)
+returns-5 c = sync-done _ _ _ (c .before .before .before .before .before .before .before .before .before .before .before .before .before .before .before .before .session .given .1) (c .before .before .before .before .before .before .before .before .before .before .before .before .before .if1 .left) (passed (c .before .before .before .before .before .before .before .before .before .before .before .fits2 .ensures) (c .before .before .before .before .before .before .before .before .before .before .if2 .left)) (c .before .before .before .before .before .before .before .before .before .if3 .left) (c .success .ensures) refl (c .before .before .before .before .before .before .sync-in .ensures)
 
 pub sync-spec : {M : Type 1} → statement M
 sync-spec =
