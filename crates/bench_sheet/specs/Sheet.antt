@@ -93,6 +93,10 @@ others =
     -- Get into a buffer of the file's size: 0; one byte less: 10
     ∷ ten (puts a 513 0 ∷ gets a 513 0 513 ∷ gets a 515 0 513 ∷ [])
     ∷ ten (puts a 513 0 ∷ gets a 512 10 0 ∷ gets b 512 6 0 ∷ [])
+    -- document 02, No. 1: a table is removed; none is free until the next sync releases its sector
+    ∷ (makes 7 0 ∷ mounts 0 ∷ puts a 1 0 ∷ syncs 0 5 ∷ removes a 0 ∷ frees 0 1 ∷ puts b 1 8 ∷ syncs 0 3 ∷ frees 1 0 ∷ puts b 1 0 ∷ frees 0 0 ∷ [])
+    -- on a chopped card two sectors are free, and a put of two gets 8
+    ∷ ten (puts a 1 0 ∷ puts b 1 0 ∷ puts c 1 0 ∷ syncs 0 7 ∷ removes b 0 ∷ syncs 0 4 ∷ frees 2 0 ∷ puts d 1024 8 ∷ puts d 512 0 ∷ shows d 512 7 1 ∷ [])
     -- document 02: "A sync with no change writes exactly 1."; a sector that a land wrote is not written again
     ∷ ten (syncs 0 1 ∷ puts a 513 0 ∷ syncs 0 6 ∷ syncs 0 1 ∷ puts a 513 0 ∷ lands 5 0 ∷ syncs 0 5 ∷ unmounts 0 1 ∷ [])
     ∷ []

@@ -1,6 +1,7 @@
 -- "Try these on the contracts: a store that always says 8 or 2, and one that always says 0": the table of numbers shuts them out, whatever the
 -- number and for every call. The other trial stores are in TrialsStore (stores nothing; counts made up; the order of sync's writes), TrialsSync
--- (later syncs that only say so) and TrialsTable (the table sector first, at a cut), on the history of TrialsCard and TrialsRun. The wrong builds
+-- (later syncs that only say so) and TrialsTable (the table sector first, at a cut), on the history of TrialsCard and TrialsRun, and in TrialsFree (a
+-- figure of free made up). The wrong builds
 -- are in TrialsReuse (a sector that the cut view holds; a new name over an entry that it shows), TrialsWrap (counts compared after a wrap), TrialsEarly
 -- (table word c written early) and TrialsBuild (a dead stamp at C). Assumes nothing.
 use mathlib.Core.Path.{_≡_, refl, _∙_}
