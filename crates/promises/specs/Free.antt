@@ -13,13 +13,16 @@ use Rattle.entries.specs.Entries.{sectorsFor}
 use Rattle.apages.specs.Bits.{bitAt}
 use Rattle.card.specs.Files.{sectorsOf}
 use Rattle.card.specs.Means.{GoodName}
+use Rattle.card.specs.Reading.{read}
 use Rattle.session.specs.declared.Opened.{Opened}
 use Rattle.session.specs.declared.Session.{Session}
 use Rattle.session.specs.declared.Session.the-variants.{Open}
 use Rattle.session.specs.Views.{presentPage, cutPage, presentFiles}
 use Rattle.session.specs.FitMeans.{Fits}
 use Rattle.store.specs.declared.Room.{Room}
+use Rattle.store.specs.Mount.{mount}
 use Rattle.store.specs.Edit.{put}
+use Rattle.store.specs.Look.{free}
 use Rattle.store.specs.Sync.{sync}
 use Rattle.promises.specs.Numbers.{NoEntry}
 
@@ -54,6 +57,11 @@ pub record FreeSays (free : Session → List ℕ → Room) (s : Opened) (work : 
   -- and of 1 to 512 bytes exactly when none is free
   pub full : (n d : List ℕ) → s .worn ≡ false → GoodName n → ¬ NoEntry s work n → 1 ≤ length d → length d ≤ 512
       → (put (Open s) work n d .answer .number ≡ 8) ↔ (free (Open s) work .free ≡ 0)
+
+-- a session starts with the clear bits that reading its card shows, and nothing waiting
+abbrev pub MountFree : Type 0
+MountFree = (card work : List ℕ) → mount card work .answer .number ≡ 0
+    → (free (mount card work .session) (mount card work .work) .free ≡ read card .free) × (free (mount card work .session) (mount card work .work) .waiting ≡ 0)
 
 abbrev pub FreePromise : (Session → List ℕ → Room) → Type 0
 FreePromise free = (s : Opened) (work : List ℕ) → Fits s work → FreeSays free s work

@@ -31,7 +31,6 @@ use Rattle.session.specs.Fits.{fits}
 use Rattle.session.specs.FitLaws.{Fit, fit-inv, fit-table, present-worn}
 use Rattle.session.specs.FitMeansProved.{fits-mean}
 use Rattle.store.specs.Edit.{put}
-use Rattle.store.specs.Look.{figures, free}
 use Rattle.store.specs.RoomLaws.{present-wide, alike}
 use Rattle.promises.specs.Numbers.{Gives, NoEntry, NoRoom, putRows}
 use Rattle.promises.specs.NumbersProved.{numbers}

@@ -1,13 +1,12 @@
 -- Document 02, No. 1, proved: the two figures of free; a sync releases what waits. Assumes nothing.
-use mathlib.Core.Path.{_≡_, refl, sym, ap, _∙_}
-use mathlib.Core.Bool.{Bool, true, false}
+use mathlib.Core.Path.{_≡_, refl, _∙_}
+use mathlib.Core.Bool.{true, false}
 use mathlib.Core.List.{List}
 use Prim.Native.Nat.{ℕ, _+_}
 use Rattle.sectors.specs.Sectors.{sec}
 use Rattle.counts.specs.Geometry.{tableOf}
 use Rattle.apages.specs.Bits.{clearBits}
 use Rattle.apages.specs.Index.{pageIn}
-use Rattle.apages.specs.Free.{freeIn, waitingIn}
 use Rattle.apages.specs.FreeLaws.{free-waiting, free-self, waiting-self}
 use Rattle.card.specs.Plan.{refused}
 use Rattle.card.specs.PlanLaws.{go!, guard-num}
@@ -18,7 +17,6 @@ use Rattle.session.specs.Views.{presentPage, cutPage}
 use Rattle.session.specs.Fits.{fits}
 use Rattle.session.specs.FitLaws.{Fit, fit-inv, present-live}
 use Rattle.session.specs.FitMeansProved.{fits-mean}
-use Rattle.store.specs.declared.Room.{Room}
 use Rattle.store.specs.Steps.{setWord, tableSector, atTop, syncWork}
 use Rattle.store.specs.Mount.{Ended}
 use Rattle.store.specs.Sync.{grown, syncDone, sync}
@@ -39,7 +37,7 @@ use Rattle.promises.specs.FreeCounts.{free-count, waiting-count, full-8,
 
 -- what free says of a session whose two maps are both m
 module _ (s : Opened) (work : List ℕ) (fit : fits s work ≡ true) (m : List ℕ) (ep : presentPage s (sec work) ≡ m) (eq : cutPage s (sec work) ≡ m) where
-  one-view : (free (Open s) work .number ≡ 0) × (free (Open s) work .free ≡ clearBits m) × (free (Open s) work .waiting ≡ 0)
+  pub one-view : (free (Open s) work .number ≡ 0) × (free (Open s) work .free ≡ clearBits m) × (free (Open s) work .waiting ≡ 0)
   unfolding figures
   one-view = rw (free-is s work fit, ep, eq) (refl, free-self m, waiting-self m)
 

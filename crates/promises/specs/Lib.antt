@@ -42,6 +42,7 @@ pub mod NoTwo
 pub mod Free
 pub mod FreeCounts
 pub mod FreeProved
+pub mod FreeMount
 pub mod Items
 pub mod Base
 pub mod Synced

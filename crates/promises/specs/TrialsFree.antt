@@ -1,5 +1,5 @@
 -- Trial stores that make up one of the two figures of free, on the request's own story: a table put, synced and removed on the least card. Assumes nothing.
-use mathlib.Core.Path.{_≡_, refl, sym, ap, _∙_}
+use mathlib.Core.Path.{_≡_, refl, ap, _∙_}
 use mathlib.Core.Bool.{true, false, not}
 use mathlib.Core.List.{List}
 use Prim.Native.Nat.{ℕ}
