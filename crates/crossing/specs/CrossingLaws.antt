@@ -108,27 +108,27 @@ pub mount-over : (e : Ended) {a : Answer} {s : Session} {card work b : List ℕ}
     → (a .number ≡ e .answer .number) × ((b ≡ encoded (e .session)) × ((card ≡ e .card) × (work ≡ e .work)))
 mount-over e (p, (q, r)) h = (ap (λ (x : Answer). x .number) p, (h ∙ ap (λ (y : Session). encoded y) q, r))
 
--- what store_sync leaves, by the call's outcome and the session's bytes as lent
-abbrev pub Keeps : Ended → List ℕ → ℕ → List ℕ → List ℕ → List ℕ → Type 0
-Keeps e b k after card work = (k ≡ e .answer .number) × ((after ≡ kept e b) × ((card ≡ e .card) × (work ≡ e .work)))
+-- what store_sync_count leaves, by the call's outcome and the session's bytes as lent
+abbrev pub Keeps : Ended → List ℕ → Answer → List ℕ → List ℕ → List ℕ → Type 0
+Keeps e b a after card work = (a ≡ e .answer) × ((after ≡ kept e b) × ((card ≡ e .card) × (work ≡ e .work)))
 
 module _ (b card work : List ℕ) {z s : Session} {a : Answer} {k w : List ℕ} (i : z ≡ decoded b) (g : Ends (sync z card work) a s k w) where
   given : Ends (sync (decoded b) card work) a s k w
   given = rw i at g
 
-  pub sync-refused : a .number ≢ 0 → Keeps (sync (decoded b) card work) b (a .number) b k w
+  pub sync-refused : a .number ≢ 0 → Keeps (sync (decoded b) card work) b a b k w
   unfolding kept
   sync-refused n =
       let (p, (q, r)) = given in
       let m : eqb (sync (decoded b) card work .answer .number) 0 ≡ false = rw p at (ne-eqb (a .number) 0 n) in
-      (ap (λ (x : Answer). x .number) p, (rw m, r))
+      (p, (rw m, r))
 
-  pub sync-through : {after : List ℕ} → a .number ≡ 0 → after ≡ encoded s → Keeps (sync (decoded b) card work) b (a .number) after k w
+  pub sync-through : {after : List ℕ} → a .number ≡ 0 → after ≡ encoded s → Keeps (sync (decoded b) card work) b a after k w
   unfolding kept
   sync-through n h =
       let (p, (q, r)) = given in
       let m : eqb (sync (decoded b) card work .answer .number) 0 ≡ true = rw p at (eq-eqb (a .number) 0 n) in
-      (ap (λ (x : Answer). x .number) p, (rw m (h ∙ ap (λ (y : Session). encoded y) q), r))
+      (p, (rw m (h ∙ ap (λ (y : Session). encoded y) q), r))
 
 pub read-refused : (e : Report) (out : List ℕ) {r : Report} → r ≡ e → r .number ≢ 0 → (r .number ≡ e .number) × (out ≡ reported e out)
 unfolding reported

@@ -1,4 +1,4 @@
-// The store for a host: seven functions on numbers and lent bytes, each answering a number of the table.
+// The store for a host: functions on numbers and lent bytes, each answering a number of the table; store_sync_count adds the count.
 //
 // A slice crosses as a pointer and a length, an array `[u8; n]` as one pointer, a number as itself. No two lent buffers may overlap: a host can lend
 // one buffer twice, and what is promised leaves that out.
@@ -15,6 +15,7 @@ ghost use Rattle.store.specs.Look.{free};
 ghost use Rattle.store.specs.Mount.{mount};
 ghost use Rattle.store.specs.Sync.{land, sync};
 ghost use Rattle.crossing.specs.Crossing.{geoWith, decoded, encoded, reported, roomed, kept};
+use card::Answer;
 use cards::land;
 use cards::mount;
 use cards::sync;
@@ -88,20 +89,34 @@ pub extern "C" fn store_free(session: &[u8; 24], work: &[u8], out: &mut [u8; 8])
     f.number
 }
 
-// "sync 4, 1, 2, 9"; on a refusal the session's bytes stay as lent.
+// "sync 4, 1, 2, 9", with the number of sectors written; on a refusal the session's bytes stay as lent.
 #[no_mangle]
-pub extern "C" fn store_sync(session: &mut [u8; 24], card: &mut [u8], work: &mut [u8]) -> u32
-    ensures { λ r. ⌜ (r ≡ sync (decoded (now (session .entry))) (now (card .entry)) (now (work .entry)) .answer .number) × ((now (session .exit) ≡ kept (sync (decoded (now (session .entry))) (now (card .entry)) (now (work .entry))) (now (session .entry))) × ((now (card .exit) ≡ sync (decoded (now (session .entry))) (now (card .entry)) (now (work .entry)) .card) × (now (work .exit) ≡ sync (decoded (now (session .entry))) (now (card .entry)) (now (work .entry)) .work))) ⌝ }
+pub extern "C" fn store_sync_count(
+    session: &mut [u8; 24],
+    card: &mut [u8],
+    work: &mut [u8],
+) -> Answer
+    ensures { λ r. ⌜ (r ≡ sync (decoded (now (session .entry))) (now (card .entry)) (now (work .entry)) .answer) × (((now (session .exit) ≡ kept (sync (decoded (now (session .entry))) (now (card .entry)) (now (work .entry))) (now (session .entry))) × ((now (card .exit) ≡ sync (decoded (now (session .entry))) (now (card .entry)) (now (work .entry)) .card) × (now (work .exit) ≡ sync (decoded (now (session .entry))) (now (card .entry)) (now (work .entry)) .work)))) ⌝ }
 {
     let b = *session;
     let s = decoded(b);
     let o = sync(s, card, work);
+    let answer = o.answer;
     if o.answer.number != 0 {
-        return o.answer.number;
+        return answer;
     }
     let next = o.session;
     *session = encoded(next);
-    o.answer.number
+    answer
+}
+
+// The same call, its number alone.
+#[no_mangle]
+pub extern "C" fn store_sync(session: &mut [u8; 24], card: &mut [u8], work: &mut [u8]) -> u32
+    ensures { λ r. ⌜ (r ≡ sync (decoded (now (session .entry))) (now (card .entry)) (now (work .entry)) .answer .number) × (((now (session .exit) ≡ kept (sync (decoded (now (session .entry))) (now (card .entry)) (now (work .entry))) (now (session .entry))) × ((now (card .exit) ≡ sync (decoded (now (session .entry))) (now (card .entry)) (now (work .entry)) .card) × (now (work .exit) ≡ sync (decoded (now (session .entry))) (now (card .entry)) (now (work .entry)) .work)))) ⌝ }
+{
+    let a = store_sync_count(session, card, work);
+    a.number
 }
 
 // "land 4, 1, 2, 11"

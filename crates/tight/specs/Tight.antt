@@ -49,6 +49,8 @@ use Rattle.host.proofs.store_free.Kinds as store_free·is
 use Rattle.host.proofs.store_free.Reads as store_free
 use Rattle.host.proofs.store_sync.Kinds as store_sync·is
 use Rattle.host.proofs.store_sync.Reads as store_sync
+use Rattle.host.proofs.store_sync_count.Kinds as store_sync_count·is
+use Rattle.host.proofs.store_sync_count.Reads as store_sync_count
 use Rattle.host.proofs.store_land.Kinds as store_land·is
 use Rattle.host.proofs.store_land.Reads as store_land
 
@@ -81,6 +83,7 @@ pub record Contracts : Type 0 where
   pub ofStorePut : Tight 4 store_put·is.ps store_put·is.r store_put.Pre store_put.Post (λ κs s. now (s .1 .0) ∷ [])
   pub ofStoreFree : Tight 3 store_free·is.ps store_free·is.r store_free.Pre store_free.Post (λ κs s. now (s .1 .1 .0) ∷ [])
   pub ofStoreSync : Tight 3 store_sync·is.ps store_sync·is.r store_sync.Pre store_sync.Post (λ κs s. now (s .0) ∷ now (s .1 .0) ∷ now (s .1 .1 .0) ∷ [])
+  pub ofStoreSyncCount : Tight 3 store_sync_count·is.ps store_sync_count·is.r store_sync_count.Pre store_sync_count.Post (λ κs s. now (s .0) ∷ now (s .1 .0) ∷ now (s .1 .1 .0) ∷ [])
   pub ofStoreLand : Tight 3 store_land·is.ps store_land·is.r store_land.Pre store_land.Post (λ κs s. now (s .1 .0) ∷ [])
 
 -- ---- the proof: a clause is one to four equations, each with what the definition gives on its right
@@ -129,5 +132,6 @@ contracts =
       ofStorePut = λ κs a. (tt, λ x y s t p q. two p q);
       ofStoreFree = λ κs a. (tt, λ x y s t p q. two p q);
       ofStoreSync = λ κs a. (tt, λ x y s t p q. five p q);
+      ofStoreSyncCount = λ κs a. (tt, λ x y s t p q. five p q);
       ofStoreLand = λ κs a. (tt, λ x y s t p q. two p q);
     }

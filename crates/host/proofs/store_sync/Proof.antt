@@ -1,14 +1,12 @@
--- The call in the session that the bytes hold; a refusal leaves them. Assumes nothing.
-use Rattle.crossing.specs.CrossingLaws.{sync-refused, sync-through}
+-- The number of the call that counts. Assumes nothing.
+use mathlib.Core.Path.{ap}
+use Rattle.card.specs.declared.Answer.{Answer}
 use borrow.Author.Needs.{needs}
 use Rattle.host.proofs.store_sync.Statement.{statement}
 use Rattle.host.proofs.store_sync.Tie as tie
 
-decoded-requires : tie.Need-decoded-requires
-decoded-requires c κs = search needs
-
-sync-requires : tie.Need-sync-requires
-sync-requires c κs = search needs
+store-sync-count-requires : tie.Need-store-sync-count-requires
+store-sync-count-requires c κs = search needs
 
 same-length : tie.Need-same-length
 same-length c = search needs
@@ -17,30 +15,7 @@ same-length-2 : tie.Need-same-length-2
 same-length-2 c = search needs
 
 returns : tie.Need-returns
-returns c = sync-refused _ _ _ (c .before .before .before .before .before .before .before .before .before .decoded .ensures) (c .before .before .before .before .before .before .sync .ensures) (c .if1 .taken)
-
-encoded-requires : tie.Need-encoded-requires
-encoded-requires c κs = search needs
-
-same-length-3 : tie.Need-same-length-3
-same-length-3 c = search needs
-
-same-length-4 : tie.Need-same-length-4
-same-length-4 c = search needs
-
-returns-2 : tie.Need-returns-2
-returns-2 c = sync-through _ _ _ (c .before .before .before .before .before .before .before .before .before .before .decoded .ensures) (c .before .before .before .before .before .before .before .sync .ensures) (c .before .if1 .left) (c .encoded .ensures)
+returns c = let e = c .before .before .before .before .store-sync-count .ensures in (ap (λ (a : Answer). a .number) (e .0), e .1)
 
 pub store-sync-spec : {M : Type 1} → statement M
-store-sync-spec =
-    tie.close
-    (tie.spec
-    decoded-requires
-    sync-requires
-    same-length
-    same-length-2
-    returns
-    encoded-requires
-    same-length-3
-    same-length-4
-    returns-2)
+store-sync-spec = tie.close (tie.spec store-sync-count-requires same-length same-length-2 returns)
