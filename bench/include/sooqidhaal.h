@@ -1,8 +1,8 @@
 /*
- * Sooqidhaal: a file store on a lent card image, as six functions for a host,
+ * Sooqidhaal: a file store on a lent card image, as seven functions for a host,
  * and two more for list over a lent table of lines.
  *
- * Link target/staticlib/libhost.a for the six and target/staticlib/liblists.a
+ * Link target/staticlib/libhost.a for the seven and target/staticlib/liblists.a
  * for list's two. They need nothing but memcpy, memmove and memset, and each
  * can be linked without the other.
  *
@@ -20,7 +20,7 @@
  * What is taken. Every call takes buffers of any length and content, any
  * 24 bytes as a session, any name and any number, and always ends. What the
  * caller answers for is C's own: each pointer is valid for its length (for the
- * arrays: 16 and 24 bytes; for a table: lines_len lines), also where the length
+ * arrays: 8, 16 and 24 bytes; for a table: lines_len lines), also where the length
  * is 0, bytes need no alignment and a table that of its struct, and NO TWO LENT
  * BUFFERS OVERLAP where one of them is written to. Nothing is promised for a
  * buffer lent twice in one call.
@@ -72,10 +72,12 @@ enum {
     STORE_NO_SECTOR = 11
 };
 
-/* Bytes of a sector, of a session and of what store_read gives. */
+/* Bytes of a sector, of a session and of what store_read and store_free
+ * give. */
 #define STORE_SECTOR 512
 #define STORE_SESSION_BYTES 24
 #define STORE_REPORT_BYTES 16
+#define STORE_ROOM_BYTES 8
 
 /* The most sectors of a card, and of a page, which is the most of a file. */
 #define STORE_MOST_SECTORS 65536
@@ -126,6 +128,16 @@ uint32_t store_mount(uint8_t *card, size_t card_len,
 uint32_t store_put(const uint8_t session[24], uint8_t *work, size_t work_len,
                    const uint8_t *name, size_t name_len,
                    const uint8_t *content, size_t content_len);
+
+/* Counts sectors of the working image: 4, 2. With 0, out holds two words: free
+ * (clear in both views, so that a put can take them now) and waiting (the ones
+ * that the next sync releases: the cut view still has them). Free, waiting, the
+ * sectors of the present files and T + 2 + 2 * P + D add up to S. A put of 1 to
+ * 512 bytes gives 8 just where free is 0; a larger one may find no run also
+ * where enough sectors are free apart from each other. A worn session has
+ * waiting 0. */
+uint32_t store_free(const uint8_t session[24],
+                    const uint8_t *work, size_t work_len, uint8_t out[8]);
 
 /* Brings the working image to the card: 4, 1, 2, 9. Every sector but the table
  * in rising order, then one sector of the table; a card that holds writes back

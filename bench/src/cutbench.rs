@@ -1,11 +1,14 @@
 //! The cut bench: the proved store's host functions beside the plain version.
 //!
-//! A history is a list of lines ([`Op`]), each a call of the six functions or
-//! of list's two, a cut, or some meddling with images and session, and has a text form. Both
+//! A history is a list of lines ([`Op`]), each a call of a host function, a
+//! cut, or some meddling with images and session, and has a text form. Both
 //! stores run it from the same state. After every call the numbers, sessions
 //! and all bytes of both images must be the same, and a refusal must have
 //! changed nothing. A list's table holds rubbish beforehand, and lines that it
-//! does not count must still hold it. Removes and unmounts, for which there is no host function,
+//! does not count must still hold it. After every line but meddling both are
+//! asked for free and waiting, which must be the same, and add up with F and the
+//! sectors of the present files to S where the session fits; on a refusal the
+//! output must be as it was. Removes and unmounts, for which there is no host function,
 //! are done by the plain version, and its images are given to both sides.
 //!
 //! At a cut each sector of the card may hold any value written to it since the
@@ -21,6 +24,7 @@ mod choices;
 mod cuts;
 mod edges;
 mod exhaustive;
+mod figures;
 mod files;
 mod histories;
 mod hostile;

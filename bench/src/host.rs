@@ -1,4 +1,4 @@
-//! The six host functions of the proved store and list's two, as safe Rust.
+//! The seven host functions of the proved store and list's two, as safe Rust.
 //!
 //! `include/sooqidhaal.h` declares the same for C. Each gives one of the
 //! numbers of the paper's table. Every call takes any image of any length, any
@@ -15,13 +15,15 @@
 //! cross as `usize`. A file lies inside one page of 4,096 sectors, and has at
 //! most 2 MiB.
 
-use crate::plain::{Line, REPORT_BYTES, SESSION_BYTES};
+use crate::plain::{Line, REPORT_BYTES, ROOM_BYTES, SESSION_BYTES};
 use std::mem::{align_of, offset_of, size_of};
 
 /// A session as it crosses to the host functions.
 pub type SessionBytes = [u8; SESSION_BYTES];
 /// What reading a card gives: words C, N, files shown, clear bits.
 pub type ReportBytes = [u8; REPORT_BYTES];
+/// What free gives: words free, waiting.
+pub type RoomBytes = [u8; ROOM_BYTES];
 
 /// What a list gives.
 #[repr(C)]
@@ -43,7 +45,7 @@ const _: () = {
 /// The symbols of the two libraries: a lent slice crosses as a pointer and a
 /// length, a lent array as a pointer.
 mod symbols {
-    use super::{Answer, Line, ReportBytes, SessionBytes};
+    use super::{Answer, Line, ReportBytes, RoomBytes, SessionBytes};
 
     extern "C" {
         pub fn store_make(s: u32, t: u32, d: u32, card: *mut u8, card_len: usize) -> u32;
@@ -63,6 +65,12 @@ mod symbols {
             name_len: usize,
             content: *const u8,
             content_len: usize,
+        ) -> u32;
+        pub fn store_free(
+            session: *const SessionBytes,
+            work: *const u8,
+            work_len: usize,
+            out: *mut RoomBytes,
         ) -> u32;
         pub fn store_sync(
             session: *mut SessionBytes,
@@ -138,6 +146,13 @@ pub fn put(session: &SessionBytes, work: &mut [u8], name: &[u8], content: &[u8])
             content.len(),
         )
     }
+}
+
+/// Counts the sectors free in both views, and those that the next sync
+/// releases: 4, 2. `out` takes both, and stays as it is on a refusal.
+pub fn free(session: &SessionBytes, work: &[u8], out: &mut RoomBytes) -> u32 {
+    // SAFETY: see above.
+    unsafe { symbols::store_free(session, work.as_ptr(), work.len(), out) }
 }
 
 /// Brings the working image to the card and begins the next transaction:

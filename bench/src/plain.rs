@@ -16,7 +16,7 @@ pub mod steps;
 mod view;
 
 pub use calls::{land, make, mount, sync, unmount};
-pub use files::{free, get, list, put, remove};
+pub use files::{free, get, list, put, remove, Room, ROOM_BYTES};
 pub use image::{set_word, word, Geometry, MOST_SECTORS, PAGE_SECTORS, SECTOR};
 pub use reading::{printed, read, read_get, read_list, Report, LONGEST_INPUT, REPORT_BYTES};
 pub use session::{Session, SESSION_BYTES};

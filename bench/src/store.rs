@@ -1,7 +1,7 @@
-//! The six calls of a store on numbers and byte buffers, and list over a lent
+//! The seven calls of a store on numbers and byte buffers, and list over a lent
 //! table of lines, so that two stores can be run beside each other.
 
-use crate::host::{self, Answer, ReportBytes, SessionBytes};
+use crate::host::{self, Answer, ReportBytes, RoomBytes, SessionBytes};
 use crate::plain::steps::{self, Step};
 use crate::plain::{self, Line, Session};
 
@@ -19,6 +19,8 @@ pub trait Store: Sync {
     fn mount(&self, card: &mut [u8], work: &mut [u8], session: &mut SessionBytes) -> u32;
     /// Stores a whole file.
     fn put(&self, session: &SessionBytes, work: &mut [u8], name: &[u8], content: &[u8]) -> u32;
+    /// Counts the free sectors and the waiting ones; `out` stays on a refusal.
+    fn free(&self, session: &SessionBytes, work: &[u8], out: &mut RoomBytes) -> u32;
     /// Brings the working image to the card.
     fn sync(&self, session: &mut SessionBytes, card: &mut [u8], work: &mut [u8]) -> u32;
     /// Copies one sector to the card.
@@ -55,6 +57,10 @@ impl Store for Proved {
 
     fn put(&self, session: &SessionBytes, work: &mut [u8], name: &[u8], content: &[u8]) -> u32 {
         host::put(session, work, name, content)
+    }
+
+    fn free(&self, session: &SessionBytes, work: &[u8], out: &mut RoomBytes) -> u32 {
+        host::free(session, work, out)
     }
 
     fn sync(&self, session: &mut SessionBytes, card: &mut [u8], work: &mut [u8]) -> u32 {
@@ -100,6 +106,16 @@ impl Store for Plain {
 
     fn put(&self, session: &SessionBytes, work: &mut [u8], name: &[u8], content: &[u8]) -> u32 {
         plain::put(&Session::decode(session), work, name, content)
+    }
+
+    fn free(&self, session: &SessionBytes, work: &[u8], out: &mut RoomBytes) -> u32 {
+        match plain::free(&Session::decode(session), work) {
+            Ok(room) => {
+                *out = room.encode();
+                plain::DONE
+            }
+            Err(refusal) => refusal,
+        }
     }
 
     fn sync(&self, session: &mut SessionBytes, card: &mut [u8], work: &mut [u8]) -> u32 {

@@ -84,6 +84,24 @@ fn lists_that_touch_or_leave_out_a_line_are_found() {
     }
 }
 
+/// Beside themselves: the figures add up, a put of one sector finds room just
+/// where free is not 0, and a refusal leaves the output.
+#[test]
+fn wrong_free_figures_are_found() {
+    for (wrong, what) in [
+        (Wrong::OldFree, "put of one sector gives 8 with free"),
+        (Wrong::WaitsForAll, "free and waiting do not add up"),
+        (Wrong::FreeWrites, "free refuses with"),
+    ] {
+        let small = found(Pair(&wrong, &wrong));
+        assert!(small.what.starts_with(what), "{}", small.what);
+    }
+    for wrong in [Wrong::OldFree, Wrong::WaitsForAll, Wrong::FreeWrites] {
+        let small = found(Pair(&wrong, &Plain));
+        assert!(small.what.starts_with("free "), "{}", small.what);
+    }
+}
+
 #[test]
 fn comparing_finds_every_wrong_byte_and_number() {
     for wrong in [

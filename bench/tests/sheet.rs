@@ -76,8 +76,9 @@ fn a_replaced_file_goes_to_8_and_b_follows_its_sectors() {
     host.store("a", 1_000);
     assert_eq!(host.files(), ["a 1000 8 2"]);
     assert_eq!(host.put("b", b"x"), 8);
-    assert_eq!(host.free(), Ok(2));
+    assert_eq!(host.figures(), Ok((0, 2)));
     assert_eq!(host.sync(), 0);
+    assert_eq!(host.figures(), Ok((2, 0)));
     host.store("b", 1);
     assert_eq!(host.files(), ["a 1000 8 2", "b 1 6 1"]);
 }

@@ -24,7 +24,7 @@ fn a_freed_sector_is_not_reused_while_the_cut_view_holds_it() {
     host.store("a", 1_024);
     assert_eq!(host.sync(), 0);
     assert_eq!(host.remove("a"), 0);
-    assert_eq!(host.free(), Ok(4));
+    assert_eq!(host.figures(), Ok((2, 2)));
     assert_eq!(host.put("big", &content(1_025)), 8);
     host.store("b", 1_000);
     assert_eq!(host.files(), ["b 1000 8 2"]);
@@ -139,7 +139,7 @@ fn a_removed_entry_keeps_its_name_and_clears_its_bits() {
     host.store("a", 513);
     assert_eq!(host.sync(), 0);
     assert_eq!(host.remove("a"), 0);
-    assert_eq!(host.free(), Ok(4));
+    assert_eq!(host.figures(), Ok((2, 2)));
     let words: Vec<u32> = (0..19).map(|i| host.word(5, i)).collect();
     let name = [1, 0x61, 0, 0, 0, 0, 0, 0, 0];
     let expected = [&[0, 2], &name[..], &[0; 4], &[1, 6, 2, 513]].concat();

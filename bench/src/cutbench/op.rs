@@ -33,6 +33,8 @@ pub enum Op {
     },
     Sync,
     Land(u32),
+    /// Both figures of free, which are asked after every other call as well.
+    Free,
     /// A list into a table of so many lines.
     List(usize),
     /// Reading's list into a table of so many lines.
@@ -71,6 +73,22 @@ pub enum Op {
     Back,
 }
 
+impl Op {
+    /// Whether a line changes images and session behind the stores' backs.
+    pub fn meddles(&self) -> bool {
+        matches!(
+            self,
+            Op::Stored(_)
+                | Op::Noise(..)
+                | Op::Poke(..)
+                | Op::Length(..)
+                | Op::Session(..)
+                | Op::Save
+                | Op::Back
+        )
+    }
+}
+
 impl fmt::Display for Which {
     fn fmt(&self, f: &mut fmt::Formatter) -> fmt::Result {
         f.write_str(match self {
@@ -100,6 +118,7 @@ impl fmt::Display for Op {
             Op::Put { name, bytes, seed } => write!(f, "put {} {bytes} {seed}", escaped(name)),
             Op::Sync => write!(f, "sync"),
             Op::Land(sector) => write!(f, "land {sector}"),
+            Op::Free => write!(f, "free"),
             Op::List(lines) => write!(f, "list {lines}"),
             Op::ReadList(lines) => write!(f, "read-list {lines}"),
             Op::Remove(name) => write!(f, "remove {}", escaped(name)),

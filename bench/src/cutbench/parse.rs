@@ -34,6 +34,7 @@ fn op(line: &str) -> Option<Op> {
         },
         "sync" => Op::Sync,
         "land" => Op::Land(number(w)?),
+        "free" => Op::Free,
         "list" => Op::List(number(w)?),
         "read-list" => Op::ReadList(number(w)?),
         "remove" => Op::Remove(name(w)?),

@@ -5,7 +5,7 @@ use super::files::{files_of, Files};
 use super::op::Cuttable;
 use super::summary::Call;
 use super::world::{Outcome, World};
-use crate::plain::{self, Session, DONE};
+use crate::plain::{self, Session, DONE, NO_ROOM, SECTOR};
 
 /// What is known of a history.
 pub struct Track {
@@ -67,6 +67,12 @@ impl World<'_> {
         if let Some(track) = self.track.as_mut().filter(|_| number == DONE) {
             track.present.insert(name.to_vec(), content.to_vec());
             track.choices.all_written(self.sides[0].work.bytes());
+        }
+        if number == NO_ROOM && content.len() <= SECTOR {
+            return match self.free()? {
+                Some(0) => Ok(()),
+                free => Err(format!("put of one sector gives 8 with free {free:?}")),
+            };
         }
         Ok(())
     }

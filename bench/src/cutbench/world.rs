@@ -42,8 +42,18 @@ impl<'a> World<'a> {
         }
     }
 
-    /// Runs one line.
+    /// Runs one line, and asks for the free figures after it unless it
+    /// meddles.
     pub fn run(&mut self, op: &Op) -> Outcome {
+        if op.meddles() {
+            self.meddle(op);
+            return Ok(());
+        }
+        self.run_call(op)?;
+        self.free().map(|_| ())
+    }
+
+    fn run_call(&mut self, op: &Op) -> Outcome {
         match op {
             Op::Fresh(s, t, d) => {
                 let length = SECTOR * (*s).min(MOST_SECTORS + 1) as usize;
@@ -57,6 +67,7 @@ impl<'a> World<'a> {
             Op::Put { name, bytes, seed } => self.put(name, &Dice::new(*seed).bytes(*bytes)),
             Op::Sync => self.sync(),
             Op::Land(sector) => self.land(*sector),
+            Op::Free => Ok(()),
             Op::List(lines) => self.list(*lines),
             Op::ReadList(lines) => self.list_card(*lines),
             Op::Remove(name) => self.remove(name),
@@ -67,10 +78,7 @@ impl<'a> World<'a> {
             Op::AllIn(call, most) => self.all_in(*call, u128::from(*most)),
             Op::Cut(seed) => self.cut(*seed),
             Op::CutIn(call, steps, seed) => self.cut_in(*call, *steps, *seed),
-            meddling => {
-                self.meddle(meddling);
-                Ok(())
-            }
+            _ => Ok(()),
         }
     }
 

@@ -58,10 +58,42 @@ pub fn list(session: &Session, work: &[u8], lines: &mut [Line]) -> Result<u32, u
     list_shown(&open.present(work), lines)
 }
 
-/// Counts the clear bits of the present bitmap.
-pub fn free(session: &Session, work: &[u8]) -> Result<u32, u32> {
+/// Bytes of what free gives as it crosses the C boundary: two words.
+pub const ROOM_BYTES: usize = 8;
+
+/// What free gives.
+#[derive(Clone, Copy, Debug, Default, PartialEq, Eq)]
+pub struct Room {
+    /// The sectors that are clear in both views.
+    pub free: u32,
+    /// The sectors that the next sync releases: set in the cut view and clear
+    /// in the present one.
+    pub waiting: u32,
+}
+
+impl Room {
+    /// The words free and waiting, least byte first.
+    pub fn encode(&self) -> [u8; ROOM_BYTES] {
+        let mut bytes = [0; ROOM_BYTES];
+        bytes[..4].copy_from_slice(&self.free.to_le_bytes());
+        bytes[4..].copy_from_slice(&self.waiting.to_le_bytes());
+        bytes
+    }
+}
+
+/// Counts the free sectors and those that wait for the next sync.
+pub fn free(session: &Session, work: &[u8]) -> Result<Room, u32> {
     let open = session.fitting(work)?;
-    Ok(open.present(work).clear_bits())
+    let (present, cut) = (open.present(work), open.cut(work));
+    let mut room = Room::default();
+    for sector in 0..open.geometry.s() {
+        match (present.in_use(sector), cut.in_use(sector)) {
+            (false, false) => room.free += 1,
+            (false, true) => room.waiting += 1,
+            (true, _) => {}
+        }
+    }
+    Ok(room)
 }
 
 /// Get over the files of a view: 5, 6, 10.

@@ -1,7 +1,7 @@
 //! What the tests share: a host with a card, a working image and a session.
 #![allow(dead_code)]
 
-use bench::plain::{self, Line, Report, Session};
+use bench::plain::{self, Line, Report, Room, Session};
 
 /// A card, a working image of its length and a session.
 #[derive(Clone, Debug, PartialEq, Eq)]
@@ -77,8 +77,18 @@ impl Host {
         plain::land(&self.session, &mut self.card, &self.work, sector)
     }
 
+    /// The free sectors; none may wait for a sync.
     pub fn free(&self) -> Result<u32, u32> {
-        plain::free(&self.session, &self.work)
+        self.figures().map(|(free, waiting)| {
+            assert_eq!(waiting, 0);
+            free
+        })
+    }
+
+    /// The free sectors and those that wait for a sync.
+    pub fn figures(&self) -> Result<(u32, u32), u32> {
+        let room = plain::free(&self.session, &self.work);
+        room.map(|Room { free, waiting }| (free, waiting))
     }
 
     pub fn get(&self, name: &str, room: usize) -> Result<Vec<u8>, u32> {

@@ -48,6 +48,16 @@ pub fn free_in_both(session: &SessionBytes, work: &[u8], g: &Geometry, sector: u
     !pages.into_iter().any(used)
 }
 
+/// The data sectors that the cut view of a working image has set.
+pub fn used_in_cut(session: &SessionBytes, work: &[u8], g: &Geometry) -> u32 {
+    let used = |sector: &u32| {
+        let [_, cut] = shown(session, work, g, sector / PAGE_SECTORS);
+        let (at, mask) = place(cut, *sector);
+        work.get(at).is_some_and(|byte| byte & mask != 0)
+    };
+    (g.f()..g.s()).filter(used).count() as u32
+}
+
 /// Changes bits by the rule, the groups of all their pages with them.
 pub fn change_bits(
     session: &SessionBytes,

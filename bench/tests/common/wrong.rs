@@ -1,9 +1,9 @@
 //! Stores that are wrong on purpose. Most look right until a cut.
 
 use crate::paged;
-use bench::host::{Answer, ReportBytes, SessionBytes};
+use bench::host::{Answer, ReportBytes, RoomBytes, SessionBytes};
 use bench::plain::steps::Step;
-use bench::plain::{self, set_word, word, Geometry, Line, Session, PAGE_SECTORS, SECTOR};
+use bench::plain::{self, set_word, word, Geometry, Line, Room, Session, PAGE_SECTORS, SECTOR};
 use bench::store::{Plain, Steps, Store};
 use std::borrow::Cow;
 use std::ops::Range;
@@ -31,6 +31,12 @@ pub enum Wrong {
     ListsPast,
     /// A list with one file more than lines leaves it out and says 0.
     ListsShort,
+    /// Free counts the clear bits of the present view, and none that wait.
+    OldFree,
+    /// Every sector that the cut view has set counts as waiting.
+    WaitsForAll,
+    /// Free writes its output also where it refuses.
+    FreeWrites,
     /// Put takes a run across a page's end.
     CrossesPages,
     /// A put changes one group where it should change two.
@@ -80,6 +86,22 @@ impl Store for Wrong {
             }
             _ => Plain.put(session, work, name, content),
         }
+    }
+
+    fn free(&self, session: &SessionBytes, work: &[u8], out: &mut RoomBytes) -> u32 {
+        let number = Plain.free(session, work, out);
+        let (free, waiting) = (word(out, 0, 0), word(out, 0, 1));
+        let (free, waiting) = match self {
+            Wrong::FreeWrites if number != 0 => (0, 0),
+            Wrong::OldFree if number == 0 => (free + waiting, 0),
+            Wrong::WaitsForAll if number == 0 => {
+                let used = |g| paged::used_in_cut(session, work, &g);
+                (free, geometry(session).map_or(waiting, used))
+            }
+            _ => return number,
+        };
+        *out = Room { free, waiting }.encode();
+        number
     }
 
     fn sync(&self, session: &mut SessionBytes, card: &mut [u8], work: &mut [u8]) -> u32 {
