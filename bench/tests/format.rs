@@ -81,7 +81,7 @@ fn the_worked_card() {
 fn the_worked_card_cut_before_its_table_sector() {
     let mut host = left();
     let mut cut = host.card.clone();
-    let before_table = steps::sync_cut(&host.session, &mut cut, &host.work, 9);
+    let before_table = steps::sync_cut(&host.session, &mut cut, &host.work, 5);
     assert_eq!((before_table, host.unmount()), (0, 0));
     let (cut_lines, whole) = (lines(&cut), lines(&host.card));
     let differ = cut_lines.into_iter().zip(whole).filter(|(a, b)| a != b);

@@ -202,6 +202,14 @@ fn a_call_hands_the_card_on_in_one_line() {
     }
 }
 
+/// Whether a body ends with a line, or with it and the number of writes alone.
+fn ends_with(body: &[String], line: &str) -> bool {
+    let mut last = body.iter().rev().map(|l| l.trim());
+    let first = last.next();
+    first == Some(line)
+        || (first.is_some_and(|l| l.parse::<u32>().is_ok()) && last.next() == Some(line))
+}
+
 #[test]
 fn a_step_writes_at_most_one_sector_on_each_path() {
     let all = reached();
@@ -209,24 +217,19 @@ fn a_step_writes_at_most_one_sector_on_each_path() {
         "mount_step",
         "sync_step",
         "unmount_step",
-        "copy_sector",
         "copy_changed",
+        "copy_sector",
     ] {
         let f = &all[step];
         let lines = writes(f, "card", &all);
         assert!(!lines.is_empty(), "{step} writes");
-        // what is left after a write that does not return: nothing, or how many it wrote
-        let body: Vec<&str> = f.body.iter().map(|l| l.trim()).collect();
-        let says = |line: &str| line.parse::<u32>().is_ok();
-        let tail = if says(body[body.len() - 1]) { 2 } else { 1 };
-        let last = body[body.len() - tail];
         for line in lines {
-            let ends = line.starts_with("return ") || line == last;
+            let ends = line.starts_with("return ") || ends_with(&f.body, &line);
             assert!(ends, "{step} goes on after it wrote: {line}");
             let by = [
                 "write_sector(",
-                "copy_sector(",
                 "copy_changed(",
+                "copy_sector(",
                 "sync_step(",
             ];
             assert!(

@@ -210,11 +210,11 @@ fn a_cut_in_sync_shows_the_earlier_files_until_the_table_sector() {
     assert_eq!(host.remove("gone"), 0);
     host.store("b", 0);
     let list = steps::of_sync(&host.session, &host.card, &host.work).expect("sync is taken");
-    assert_eq!(steps::writes(&list), 10);
-    for k in 0..=10 {
+    assert_eq!(steps::writes(&list), 6);
+    for k in 0..=6 {
         let mut card = host.card.clone();
         assert_eq!(steps::sync_cut(&host.session, &mut card, &host.work, k), 0);
-        let (files, text) = if k < 10 {
+        let (files, text) = if k < 6 {
             (["a 600 6 2", "gone 0 0 0"], content(600))
         } else {
             (["a 700 8 2", "b 0 0 0"], content(700))
@@ -250,4 +250,52 @@ fn the_reading_programs_example() {
     assert_eq!(host.unmount(), 0);
     let expected = "counts 0 of 128\nfiles 1\nleft 513 6 2\nfree 2\n";
     assert_eq!(plain::printed(&host.card), expected);
+}
+
+/// The counts of syncs and unmounts: the sectors outside the table that differ,
+/// and the table sector.
+#[test]
+fn sync_and_unmount_count_the_sectors_they_write() {
+    let counted = |host: &mut Host| {
+        let Host {
+            card,
+            work,
+            session,
+        } = host;
+        plain::sync_count(session, card, work)
+    };
+    let closed = |host: &mut Host| {
+        let Host {
+            card,
+            work,
+            session,
+        } = host;
+        plain::unmount_count(session, card, work)
+    };
+    let mut host = Host::small();
+    assert_eq!(counted(&mut host), Ok(1));
+    host.store("a", 1_024);
+    assert_eq!(counted(&mut host), Ok(6));
+    host.store("a", 1_000);
+    assert_eq!(counted(&mut host), Ok(6));
+    assert_eq!(counted(&mut host), Ok(1));
+    host.store("b", 0);
+    assert_eq!(counted(&mut host), Ok(2));
+    assert_eq!(host.remove("a"), 0);
+    let mut landed = host.clone();
+    assert_eq!(closed(&mut host), Ok(4));
+    assert_eq!(closed(&mut host), Err(4));
+    // What was landed before is not written again.
+    assert!([2, 5].iter().all(|sector| landed.land(*sector) == 0));
+    assert_eq!(closed(&mut landed), Ok(2));
+    assert_eq!(landed.card, host.card);
+
+    // It becomes worn, and then writes nothing.
+    let mut card = fresh_card(10, 1, 1);
+    set_word(&mut card, 1, 0, TOP - 1);
+    let mut host = Host::mount(card);
+    host.store("a", 513);
+    assert_eq!(counted(&mut host), Ok(6));
+    assert_eq!(counted(&mut host), Err(9));
+    assert_eq!(closed(&mut host), Ok(0));
 }

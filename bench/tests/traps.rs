@@ -217,22 +217,32 @@ fn with_count(session: Session, tx: u32, worn: bool) -> Session {
 }
 
 #[test]
-fn sync_writes_every_sector_but_the_table_and_then_its_own() {
+fn sync_writes_what_differs_outside_the_table_and_then_its_table_sector() {
     let mut card = fresh_card(12, 2, 1);
     set_word(&mut card, 0, 0, 130);
-    let host = Host::mount(card);
-    let list = steps::of_sync(&host.session, &host.card, &host.work).expect("sync is taken");
-    let places: Vec<Option<u32>> = list
-        .iter()
-        .map(|step| match step {
+    let mut host = Host::mount(card);
+    let places = |host: &Host| -> Vec<Option<u32>> {
+        let list = steps::of_sync(&host.session, &host.card, &host.work).expect("sync is taken");
+        let place = |step: &steps::Step| match step {
             steps::Step::Write { sector, .. } => Some(*sector),
             steps::Step::Barrier => None,
-        })
-        .collect();
-    let rising = [0, 3, 4, 5, 6, 7, 8, 9, 10, 11].map(Some);
-    assert_eq!(places, [&rising[..], &[None, Some(2), None]].concat());
+        };
+        list.iter().map(place).collect()
+    };
+    assert_eq!(places(&host), [None, Some(2), None]);
+    host.store("a", 513);
+    let table = [None, Some(2), None];
+    let rising = [3, 5, 6, 7, 8].map(Some);
+    assert_eq!(places(&host), [&rising[..], &table].concat());
+    // What has landed is not written again; a damaged table sector of the card
+    // is not looked at, a damaged data sector is written.
+    assert_eq!((host.land(3), host.land(8)), (0, 0));
+    host.card[512] ^= 1;
+    host.card[11 * 512 + 9] ^= 1;
+    let rising = [5, 6, 7, 11].map(Some);
+    assert_eq!(places(&host), [&rising[..], &table].concat());
     let list = steps::of_unmount(&host.session, &host.card, &host.work).expect("it is taken");
-    assert_eq!(steps::writes(&list), 12);
+    assert_eq!((steps::writes(&list), steps::counted(&list)), (6, 5));
     let Some(steps::Step::Write { sector, content }) = list.last() else {
         panic!("unmount ends with a write");
     };
@@ -250,7 +260,7 @@ fn the_steps_of_a_call_add_up_to_the_call() {
     );
     let mut unmounted = host.card.clone();
     assert_eq!(
-        steps::unmount_cut(&host.session, &mut unmounted, &host.work, 11),
+        steps::unmount_cut(&host.session, &mut unmounted, &host.work, 7),
         0
     );
     let mut other = host.clone();

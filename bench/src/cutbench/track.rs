@@ -5,7 +5,8 @@ use super::files::{files_of, Files};
 use super::op::Cuttable;
 use super::summary::Call;
 use super::world::{Outcome, World};
-use crate::plain::{self, Session, DONE, NO_ROOM, SECTOR};
+use crate::plain::steps::{counted, Step};
+use crate::plain::{self, Session, DONE, NO_ROOM, PAGE_SECTORS, SECTOR};
 
 /// What is known of a history.
 pub struct Track {
@@ -15,6 +16,9 @@ pub struct Track {
     pub shown: Files,
     /// The files of the present view.
     pub present: Files,
+    /// The data sectors of the puts since the latest sync or mount, and the
+    /// puts and removes themselves.
+    changes: usize,
 }
 
 impl Track {
@@ -24,7 +28,22 @@ impl Track {
             choices: Choices::settled(card),
             shown: files.clone(),
             present: files,
+            changes: 0,
         }
+    }
+
+    /// A sync or an unmount with these steps writes one sector if nothing was
+    /// changed, and else at most the changes and P + 2.
+    fn must_bound(&self, list: &[Step], s: u32) -> Outcome {
+        let count = counted(list) as usize;
+        let most = match self.changes {
+            0 => 1,
+            changes => changes + s.div_ceil(PAGE_SECTORS) as usize + 2,
+        };
+        if (1..=most).contains(&count) {
+            return Ok(());
+        }
+        Err(format!("sync writes {count} sectors, not 1 to {most}"))
     }
 }
 
@@ -66,6 +85,7 @@ impl World<'_> {
         })?;
         if let Some(track) = self.track.as_mut().filter(|_| number == DONE) {
             track.present.insert(name.to_vec(), content.to_vec());
+            track.changes += content.len().div_ceil(SECTOR) + 1;
             track.choices.all_written(self.sides[0].work.bytes());
         }
         if number == NO_ROOM && content.len() <= SECTOR {
@@ -85,6 +105,7 @@ impl World<'_> {
         self.take_over();
         if let Some(track) = self.track.as_mut().filter(|_| number == DONE) {
             track.choices.all_written(self.sides[0].work.bytes());
+            track.changes += 1;
             if track.present.remove(name).is_none() {
                 return Err("a file that is not there was removed".into());
             }
@@ -104,6 +125,7 @@ impl World<'_> {
     }
 
     pub(super) fn sync(&mut self) -> Outcome {
+        self.bound(Cuttable::Sync)?;
         let number = self.call(Call::Sync, |store, side| {
             let (card, work) = (side.card.bytes_mut(), side.work.bytes_mut());
             store.sync(&mut side.session, card, work)
@@ -121,8 +143,21 @@ impl World<'_> {
         }
     }
 
+    /// The bound on the writes of a sync or an unmount from here, where nothing
+    /// but calls changed the card.
+    fn bound(&self, call: Cuttable) -> Outcome {
+        match (&self.track, self.session()) {
+            (Some(track), Session::Open { s, worn: false, .. }) => {
+                let list = self.steps_of(call);
+                list.map_or(Ok(()), |list| track.must_bound(&list, s))
+            }
+            _ => Ok(()),
+        }
+    }
+
     /// By the plain version, as remove is.
     pub(super) fn unmount(&mut self) -> Outcome {
+        self.bound(Cuttable::Unmount)?;
         let list = self.steps_of(Cuttable::Unmount);
         let mut session = self.session();
         let side = &mut self.sides[1];

@@ -6,7 +6,7 @@ use super::image::{
 };
 use super::index::Group;
 use super::session::{Open, Session};
-use super::steps::{first_writes, of_mount, of_sync, of_unmount};
+use super::steps::{counted, first_writes, of_mount, of_sync, of_unmount};
 use super::{number, BAD_GEOMETRY, DONE, NO_SECTOR, TOP};
 
 /// Makes a fresh card of S, T and D.
@@ -69,16 +69,17 @@ fn try_land(session: &Session, card: &mut [u8], work: &[u8], sector: u32) -> Res
 
 /// Brings the working image to the card and begins the next transaction.
 pub fn sync(session: &mut Session, card: &mut [u8], work: &mut [u8]) -> u32 {
-    number(try_sync(session, card, work))
+    number(sync_count(session, card, work).map(|_| ()))
 }
 
-fn try_sync(session: &mut Session, card: &mut [u8], work: &mut [u8]) -> Result<(), u32> {
+/// The same, and gives how many sectors it wrote.
+pub fn sync_count(session: &mut Session, card: &mut [u8], work: &mut [u8]) -> Result<u32, u32> {
     let steps = of_sync(session, card, work)?;
     let open = session.fitting(work)?;
     first_writes(card, &steps, steps.len());
     set_word(work, 1, open.c as usize, open.tx);
     *session = after_sync(open).into();
-    Ok(())
+    Ok(counted(&steps))
 }
 
 /// The session after a sync: t grows by 1, or stays and the session is worn.
@@ -96,10 +97,12 @@ fn after_sync(open: Open) -> Open {
 /// Syncs unless worn, gives the crash count back unless worn by then, and
 /// closes the session.
 pub fn unmount(session: &mut Session, card: &mut [u8], work: &mut [u8]) -> u32 {
-    number(try_unmount(session, card, work))
+    number(unmount_count(session, card, work).map(|_| ()))
 }
 
-fn try_unmount(session: &mut Session, card: &mut [u8], work: &mut [u8]) -> Result<(), u32> {
+/// The same, and gives how many sectors its sync wrote; sector 0 is not
+/// counted.
+pub fn unmount_count(session: &mut Session, card: &mut [u8], work: &mut [u8]) -> Result<u32, u32> {
     let steps = of_unmount(session, card, work)?;
     let open = session.fitting(work)?;
     first_writes(card, &steps, steps.len());
@@ -110,5 +113,5 @@ fn try_unmount(session: &mut Session, card: &mut [u8], work: &mut [u8]) -> Resul
         }
     }
     *session = Session::Closed;
-    Ok(())
+    Ok(counted(&steps))
 }

@@ -33,14 +33,16 @@ pub fn of_mount(card: &[u8], work: &[u8]) -> Result<Vec<Step>, u32> {
     Ok(vec![sector_0_with(card, c + 1), Step::Barrier])
 }
 
-/// The steps of a sync: every sector but the table in rising order, then the
-/// table sector that holds word c, which has landed when the sync has ended.
+/// The steps of a sync: every sector outside the table that differs on the
+/// card, in rising order, then the table sector that holds word c, which has
+/// landed when the sync has ended. The barrier before it is for every sector,
+/// also one that is not written here.
 pub fn of_sync(session: &Session, card: &[u8], work: &[u8]) -> Result<Vec<Step>, u32> {
     let open = session.fitting_card(card, work)?;
     if open.worn {
         return Err(WORN);
     }
-    Ok(sync_of(&open, work))
+    Ok(sync_of(&open, card, work))
 }
 
 /// The steps of an unmount: sync's, then sector 0 with count c. A worn
@@ -50,7 +52,7 @@ pub fn of_unmount(session: &Session, card: &[u8], work: &[u8]) -> Result<Vec<Ste
     if open.worn {
         return Ok(Vec::new());
     }
-    let mut steps = sync_of(&open, work);
+    let mut steps = sync_of(&open, card, work);
     if open.tx < TOP {
         steps.push(sector_0_with(work, open.c));
     }
@@ -60,6 +62,13 @@ pub fn of_unmount(session: &Session, card: &[u8], work: &[u8]) -> Result<Vec<Ste
 /// How many writes a list has.
 pub fn writes(steps: &[Step]) -> usize {
     steps.iter().filter(|s| **s != Step::Barrier).count()
+}
+
+/// How many sectors a sync or an unmount with this list says it wrote: those
+/// before the last barrier. Sector 0 of an unmount comes after it.
+pub fn counted(steps: &[Step]) -> u32 {
+    let end = steps.iter().rposition(|s| *s == Step::Barrier);
+    writes(&steps[..end.unwrap_or(0)]) as u32
 }
 
 /// Does the first `k` writes of a list, or all if it has fewer.
@@ -103,10 +112,11 @@ fn sound_and_of_one_length(card: &[u8], work: &[u8]) -> Result<Geometry, u32> {
     Ok(sound_card(card)?.geometry)
 }
 
-fn sync_of(open: &Open, work: &[u8]) -> Vec<Step> {
+fn sync_of(open: &Open, card: &[u8], work: &[u8]) -> Vec<Step> {
     let g = &open.geometry;
-    let mut steps = vec![write_of(work, 0)];
-    steps.extend((g.index()..g.s()).map(|sector| write_of(work, sector)));
+    let outside_table = (0..1).chain(g.index()..g.s());
+    let differ = outside_table.filter(|s| card[bytes_of(*s)] != work[bytes_of(*s)]);
+    let mut steps: Vec<Step> = differ.map(|sector| write_of(work, sector)).collect();
     steps.extend([Step::Barrier, table_step(open, work), Step::Barrier]);
     steps
 }

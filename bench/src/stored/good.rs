@@ -51,7 +51,8 @@ impl Running {
         self.cut()
     }
 
-    /// A sync that is cut after so many writes.
+    /// A sync that is cut after so many writes: here the index, an apage, the
+    /// directory, two data sectors and the table.
     fn sync_cut(mut self, writes: usize) -> Forge {
         plain::steps::sync_cut(&self.session, &mut self.card, &self.work, writes);
         self.cut()
@@ -81,12 +82,12 @@ fn by_calls() -> Vec<StoredCard> {
         ),
         shows(
             "cut_at_9",
-            two_versions().sync_cut(9),
+            two_versions().sync_cut(5),
             &["counts 1 of 128", "files 1", "a 600 6 2", "free 2"],
         ),
         shows(
             "cut_at_10",
-            two_versions().sync_cut(10),
+            two_versions().sync_cut(6),
             &["counts 1 of 128", "files 1", "a 700 8 2", "free 2"],
         ),
     ]
