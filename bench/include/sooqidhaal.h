@@ -139,12 +139,11 @@ uint32_t store_put(const uint8_t session[24], uint8_t *work, size_t work_len,
 uint32_t store_free(const uint8_t session[24],
                     const uint8_t *work, size_t work_len, uint8_t out[8]);
 
-/* Brings the working image to the card: 4, 1, 2, 9. Every sector outside
- * the table that differs, in rising order, then one sector of the table. A card
- * that holds writes back must have all the others before that one: not those
- * of this call alone, but whatever was written to it before, by store_land
- * too. The session gets the next
- * transaction count, or is worn. */
+/* Brings the working image to the card: 4, 1, 2, 9. Every sector outside the
+ * table that differs in rising order, then one sector of the table; a card that
+ * holds writes back must have all the others before that one, not those of
+ * this call alone but whatever was written to it before, by store_land too. The
+ * session gets the next transaction count, or is worn. */
 uint32_t store_sync(uint8_t session[24], uint8_t *card, size_t card_len,
                     uint8_t *work, size_t work_len);
 
