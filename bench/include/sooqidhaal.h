@@ -31,8 +31,9 @@
  * is an open session that never fits. It is no secret and may be kept
  * anywhere; a session that does not belong to the working image is refused.
  *
- * Numbers. Each function gives one of these, list's two with a count. A refusal
- * (not 0) changes no byte, but that a refused mount stores the closed session.
+ * Numbers. Each function gives one of these, list's two and store_sync_count
+ * with a count. A refusal (not 0) changes no byte, but that a refused mount
+ * stores the closed session.
  *
  *    0  done
  *    1  geometry outside the limits, or an image of the wrong length
@@ -99,8 +100,8 @@ struct store_line {
     struct store_run run;
 };
 
-/* What a list gives: one of the numbers, and the lines filled (0 on a
- * refusal). */
+/* What a list gives, or a sync that counts: one of the numbers, and the lines
+ * filled or the sectors written (0 on a refusal). */
 struct store_answer {
     uint32_t number;
     uint32_t count;
@@ -146,6 +147,12 @@ uint32_t store_free(const uint8_t session[24],
  * session gets the next transaction count, or is worn. */
 uint32_t store_sync(uint8_t session[24], uint8_t *card, size_t card_len,
                     uint8_t *work, size_t work_len);
+
+/* The same, with the number of sectors written: those that differed and the
+ * one of the table; 0 on a refusal. */
+struct store_answer store_sync_count(uint8_t session[24],
+                                     uint8_t *card, size_t card_len,
+                                     uint8_t *work, size_t work_len);
 
 /* Copies one sector of the working image to the card, at any time:
  * 4, 1, 2, 11. */

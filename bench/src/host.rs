@@ -25,12 +25,12 @@ pub type ReportBytes = [u8; REPORT_BYTES];
 /// What free gives: words free, waiting.
 pub type RoomBytes = [u8; ROOM_BYTES];
 
-/// What a list gives.
+/// What a list gives, or a sync that counts.
 #[repr(C)]
 #[derive(Clone, Copy, Debug, PartialEq, Eq)]
 pub struct Answer {
     pub number: u32,
-    /// The lines filled, 0 on a refusal.
+    /// The lines filled or the sectors written, 0 on a refusal.
     pub count: u32,
 }
 
@@ -79,6 +79,13 @@ mod symbols {
             work: *mut u8,
             work_len: usize,
         ) -> u32;
+        pub fn store_sync_count(
+            session: *mut SessionBytes,
+            card: *mut u8,
+            card_len: usize,
+            work: *mut u8,
+            work_len: usize,
+        ) -> Answer;
         pub fn store_land(
             session: *const SessionBytes,
             card: *mut u8,
@@ -162,6 +169,14 @@ pub fn sync(session: &mut SessionBytes, card: &mut [u8], work: &mut [u8]) -> u32
     let (card, work) = (card.as_mut_ptr(), work.as_mut_ptr());
     // SAFETY: see above.
     unsafe { symbols::store_sync(session, card, card_len, work, work_len) }
+}
+
+/// The same, with the number of sectors written.
+pub fn sync_count(session: &mut SessionBytes, card: &mut [u8], work: &mut [u8]) -> Answer {
+    let (card_len, work_len) = (card.len(), work.len());
+    let (card, work) = (card.as_mut_ptr(), work.as_mut_ptr());
+    // SAFETY: see above.
+    unsafe { symbols::store_sync_count(session, card, card_len, work, work_len) }
 }
 
 /// Copies one sector of the working image to the card: 4, 1, 2, 11.

@@ -23,6 +23,13 @@ pub trait Store: Sync {
     fn free(&self, session: &SessionBytes, work: &[u8], out: &mut RoomBytes) -> u32;
     /// Brings the working image to the card.
     fn sync(&self, session: &mut SessionBytes, card: &mut [u8], work: &mut [u8]) -> u32;
+    /// The same, with the number of sectors written: those of its list.
+    fn sync_count(&self, session: &mut SessionBytes, card: &mut [u8], work: &mut [u8]) -> Answer {
+        let list = self.sync_steps(session, card, work).unwrap_or_default();
+        let number = self.sync(session, card, work);
+        let count = steps::counted(&list);
+        Answer { number, count }
+    }
     /// Copies one sector to the card.
     fn land(&self, session: &SessionBytes, card: &mut [u8], work: &[u8], sector: u32) -> u32;
 
@@ -65,6 +72,10 @@ impl Store for Proved {
 
     fn sync(&self, session: &mut SessionBytes, card: &mut [u8], work: &mut [u8]) -> u32 {
         host::sync(session, card, work)
+    }
+
+    fn sync_count(&self, session: &mut SessionBytes, card: &mut [u8], work: &mut [u8]) -> Answer {
+        host::sync_count(session, card, work)
     }
 
     fn land(&self, session: &SessionBytes, card: &mut [u8], work: &[u8], sector: u32) -> u32 {

@@ -126,10 +126,24 @@ impl World<'_> {
 
     pub(super) fn sync(&mut self) -> Outcome {
         self.bound(Cuttable::Sync)?;
+        let mut answers = Vec::new();
+        let mut counted = self.sides[0].clone();
         let number = self.call(Call::Sync, |store, side| {
+            let mut copy = side.clone();
+            let (card, work) = (copy.card.bytes_mut(), copy.work.bytes_mut());
+            answers.push(store.sync_count(&mut copy.session, card, work));
+            if answers.len() == 1 {
+                counted.copy_from(&copy);
+            }
             let (card, work) = (side.card.bytes_mut(), side.work.bytes_mut());
             store.sync(&mut side.session, card, work)
         })?;
+        if answers[0] != answers[1] || answers[0].number != number {
+            return Err(format!("sync counts {answers:?}, and sync gives {number}"));
+        }
+        if let Some(difference) = counted.differs(&self.sides[0]) {
+            return Err(format!("sync that counts: {difference}"));
+        }
         match self.track.take() {
             Some(track) if number == DONE => self.with_card(|world, card| {
                 world.look(card, &[&track.present])?;
