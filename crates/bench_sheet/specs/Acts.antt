@@ -26,7 +26,7 @@ use Rattle.store.specs.Sync.{land, sync, unmount}
 
 -- a call gives the number at its end, and a refusal or a call that counts nothing the count 0
 pub data Act : Type 0 where
-  -- make with S sectors (T = 1, D = 1) on an image of that length
+  -- make with S sectors (T = 1, D = 1) on an image of that length; a refusal leaves it as lent
   makes : ℕ → ℕ → Act
   mounts : ℕ → Act
   -- put of so many bytes 7 under a name
@@ -47,14 +47,15 @@ pub data Act : Type 0 where
   syncCuts : ℕ → Act
   -- the session lists the name with so many bytes, this start and so many sectors
   shows : List ℕ → ℕ → ℕ → ℕ → Act
-  -- reading the card: C, the file count and the clear bits
+  -- reading the card: C, the file count and the clear bits; N is 128
   reads : ℕ → ℕ → ℕ → Act
   -- reading the card lists the name with so many bytes, this start and so many sectors
   readsLine : List ℕ → ℕ → ℕ → ℕ → Act
   -- reading the card is refused
   refuses : ℕ → Act
-  -- word C of the card is this
+  -- word C of the card, of the working image is this
   counts : ℕ → Act
+  workCounts : ℕ → Act
   -- word C of the card, a table word of it, the stamp of its first entry is made this
   sets : ℕ → Act
   tops : ℕ → ℕ → Act
@@ -79,8 +80,8 @@ hasLine n b a k (l ∷ ls) = sameLine n b a k l || hasLine n b a k ls
 unfoldable pub isAnswer : ℕ → ℕ → Answer → Bool
 isAnswer k n a = eqb k (a .number) && eqb n (a .count)
 
-unfoldable pub isReport : ℕ → ℕ → ℕ → ℕ → Report → Bool
-isReport k c f n r = eqb k (r .number) && eqb c (r .c) && eqb f (r .files) && eqb n (r .free)
+unfoldable pub isReport : ℕ → ℕ → ℕ → ℕ → ℕ → Report → Bool
+isReport k c N f n r = eqb k (r .number) && eqb c (r .c) && eqb N (r .n) && eqb f (r .files) && eqb n (r .free)
 
 unfoldable pub isRoom : ℕ → ℕ → Room → Bool
 isRoom f n r = eqb 0 (r .number) && eqb f (r .free) && eqb n (r .waiting)
@@ -96,7 +97,7 @@ unfolding hasLine isAnswer isReport isRoom stepsDone
 run w [] = true
 run w (makes s k ∷ acts) =
     let r = make (geoFor s) (replicate (512 * s) 5) in
-    cond (isAnswer k 0 (r .answer)) (run (record { session = Closed; card = r .image; work = r .image }) acts) false
+    cond (isAnswer k 0 (r .answer) && (eqb k 0 || eqList (r .image) (replicate (512 * s) 5))) (run (record { session = Closed; card = r .image; work = r .image }) acts) false
 run w (mounts k ∷ acts) =
     let r = mount (w .card) (w .work) in cond (isAnswer k 0 (r .answer)) (run (record { session = r .session; card = r .card; work = r .work }) acts) false
 run w (puts n b k ∷ acts) =
@@ -122,10 +123,11 @@ run w (cuts ∷ acts) = run (record { session = Closed; card = w .card; work = w
 run w (syncCuts n ∷ acts) =
     let k = stepsDone (w .session) n (w .card) (w .work) in run (record { session = Closed; card = k; work = k }) acts
 run w (shows n b a k ∷ acts) = cond (hasLine n b a k (sessionFiles (w .session) (w .work))) (run w acts) false
-run w (reads c f n ∷ acts) = cond (isReport 0 c f n (read (w .card))) (run w acts) false
+run w (reads c f n ∷ acts) = cond (isReport 0 c 128 f n (read (w .card))) (run w acts) false
 run w (readsLine n b a k ∷ acts) = cond (hasLine n b a k (filesShown (w .card))) (run w acts) false
-run w (refuses k ∷ acts) = cond (isReport k 0 0 0 (read (w .card))) (run w acts) false
+run w (refuses k ∷ acts) = cond (isReport k 0 0 0 0 (read (w .card))) (run w acts) false
 run w (counts c ∷ acts) = cond (eqb c (countOf (sec (w .card)))) (run w acts) false
+run w (workCounts c ∷ acts) = cond (eqb c (countOf (sec (w .work)))) (run w acts) false
 run w (sets c ∷ acts) = run (record { session = w .session; card = setCount c (w .card); work = w .work }) acts
 run w (tops c t ∷ acts) = run (record { session = w .session; card = setWord c t (w .card); work = w .work }) acts
 run w (stamps c t ∷ acts) =

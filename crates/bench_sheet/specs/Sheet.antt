@@ -28,7 +28,7 @@ use Rattle.store.specs.Mount.{mountPlan, openedFrom, mountDone, mount}
 use Rattle.store.specs.Edit.{orElse, putPlace, placeIn, runIn, putPlan, putContent, editWork, putRun, putWork, put, removePlan, removeWork, remove}
 use Rattle.store.specs.Look.{get, list, noFigures, figures, free}
 use Rattle.store.specs.Sync.{bothPlan, land, grown, syncDone, sync, unmountDone, unmount}
-use Rattle.bench_sheet.specs.Acts.{Act, makes, mounts, puts, removes, gets, frees, syncs, lands, unmounts, cuts, syncCuts, shows, reads, readsLine, refuses, counts, sets, tops, stamps, sameLine, hasLine, isAnswer, isReport, isRoom, stepsDone, run, all}
+use Rattle.bench_sheet.specs.Acts.{Act, makes, mounts, puts, removes, gets, frees, syncs, lands, unmounts, cuts, syncCuts, shows, reads, readsLine, refuses, counts, workCounts, sets, tops, stamps, sameLine, hasLine, isAnswer, isReport, isRoom, stepsDone, run, all}
 
 abbrev pub a : List ℕ
 a = 97 ∷ []
@@ -74,9 +74,9 @@ starred =
     ∷ four (removes b 0 ∷ puts e 0 7 ∷ syncs 0 2 ∷ puts e 0 0 ∷ shows e 0 0 0 ∷ [])
     ∷ four (removes b 0 ∷ puts b 0 0 ∷ shows b 0 0 0 ∷ [])
     -- C = 127: mount writes 128. After a cut mount gives 3, reading still shows the files
-    ∷ ten (puts a 513 0 ∷ unmounts 0 6 ∷ counts 0 ∷ sets 127 ∷ mounts 0 ∷ counts 128 ∷ cuts ∷ mounts 3 ∷ reads 128 1 2 ∷ readsLine a 513 6 2 ∷ [])
+    ∷ ten (puts a 513 0 ∷ unmounts 0 6 ∷ counts 0 ∷ workCounts 0 ∷ sets 127 ∷ mounts 0 ∷ counts 128 ∷ cuts ∷ mounts 3 ∷ reads 128 1 2 ∷ readsLine a 513 6 2 ∷ [])
     -- Word C = 2,147,483,646: sync gives 0, then put gives 9; unmount leaves C + 1. Word C = 2,147,483,647 is refused 2
-    ∷ (makes 10 0 ∷ tops 0 2147483646 ∷ mounts 0 ∷ puts a 1 0 ∷ syncs 0 5 ∷ puts b 1 9 ∷ unmounts 0 0 ∷ counts 1 ∷ readsLine a 1 6 1 ∷ [])
+    ∷ (makes 10 0 ∷ tops 0 2147483646 ∷ mounts 0 ∷ puts a 1 0 ∷ syncs 0 5 ∷ puts b 1 9 ∷ unmounts 0 0 ∷ counts 1 ∷ workCounts 1 ∷ readsLine a 1 6 1 ∷ [])
     ∷ (makes 10 0 ∷ tops 0 2147483647 ∷ mounts 2 ∷ refuses 2 ∷ [])
     ∷ []
 
