@@ -7,4 +7,4 @@ mod table;
 mod timing;
 
 pub use page::with_tables;
-pub use table::tables;
+pub use table::{stacks, tables};

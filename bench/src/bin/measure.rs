@@ -1,8 +1,8 @@
 //! Prints the measurements of the functions for a host beside the plain
 //! version: `measure`; `measure PAGE` puts them into a page instead, between
-//! its marks.
+//! its marks; `measure --stack` prints the stack alone.
 
-use bench::measure::{tables, with_tables};
+use bench::measure::{stacks, tables, with_tables};
 use std::process::ExitCode;
 use std::{env, fs};
 
@@ -11,6 +11,10 @@ fn main() -> ExitCode {
         print!("{}", tables());
         return ExitCode::SUCCESS;
     };
+    if page == "--stack" {
+        print!("{}", stacks());
+        return ExitCode::SUCCESS;
+    }
     let text = fs::read_to_string(&page).unwrap_or_default();
     if with_tables(&text, "").is_none() {
         eprintln!("the page has no marks for the tables");

@@ -62,6 +62,22 @@ pub fn tables() -> String {
     .join("\n")
 }
 
+/// The stack alone: bytes of the compiled code, the same on any machine.
+pub fn stacks() -> String {
+    let mut text = format!(
+        "Stack in bytes from the caller's frame down; a call that does nothing reads {}.\n",
+        stack::floor()
+    );
+    for geometry in CARDS {
+        for call in CALLS {
+            let bed = Bed::before(call, geometry, false);
+            let proved = stack_of(&Proved, call, &bed);
+            let _ = writeln!(text, "{geometry:?} {}: {proved}", call.name());
+        }
+    }
+    text
+}
+
 fn machine() -> String {
     let info = std::fs::read_to_string("/proc/cpuinfo").unwrap_or_default();
     let model = info.lines().find(|line| line.starts_with("model name"));
