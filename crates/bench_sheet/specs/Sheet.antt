@@ -13,7 +13,7 @@ use Rattle.counts.specs.Stamps.{stampOf, alive, showing, stampOk, deadBelow, ta
 use Rattle.entries.specs.Entries.{versionOf, versionBytes, newOf, oldOf, nameBytes, entryOf, entryBytes, shownBytes, shown, goodName, nameOf, nameOk, sectorsFor, runOk, versionOk, entryOk, changed}
 use Rattle.directory.specs.Directory.{sectorEntries, entriesFrom, entriesOf, spotsFrom, spotOf, setEntry, gone, apart, named}
 use Rattle.apages.specs.Bits.{bitAt, putDigit, putBit, setRun, bitsN, bitsOf, clearIn, clearBits}
-use Rattle.apages.specs.Runs.{merge, allClear, findRun, lowestRun, runFor, outside, wanted, bitsOk, bytesToS, pageOk, dataFrom, dataTo, freshPage}
+use Rattle.apages.specs.Runs.{merge, allClear, findRun, lowestRun, runFor, outside, wanted, bitsOk, bytesToS, pageOk, dataFrom, dataTo, freshPage, runAfter, goalRun}
 use Rattle.apages.specs.Free.{freeIn, waits, waitingIn}
 use Rattle.apages.specs.Index.{indexOf, groupBytes, groupOf, everyGroup, indexIn, pairOk, groupOk, indexOk, shownPage, pageAt, mapFrom, pageIn, changedIndex, pageBefore, changedRun, changeRun, changeBits}
 use Rattle.card.specs.Plan.{guard, need, ended, refused, done}
@@ -25,7 +25,7 @@ use Rattle.session.specs.Views.{ownStamp, presentView, presentTable, cutTable, 
 use Rattle.session.specs.Fits.{sizesOk, headOk, wordOk, stampAtMost, entryAtMost, groupAtMost, indexAtMost, fitsIn, fits}
 use Rattle.store.specs.Steps.{setCount, setWord, tableSector, mountSteps, syncSteps, atTop, downSteps, unmountStepsBy, unmountSteps, countedBy, unmountCount, syncWork, downWork, unmountWorkBy, unmountWork}
 use Rattle.store.specs.Mount.{mountPlan, openedFrom, mountDone, mount}
-use Rattle.store.specs.Edit.{orElse, putPlace, placeIn, runIn, putPlan, putContent, editWork, putRun, putWork, put, removePlan, removeWork, remove}
+use Rattle.store.specs.Edit.{orElse, putPlace, placeIn, runIn, putPlan, putContent, editWork, putRun, putWork, put, removePlan, removeWork, remove, putAt}
 use Rattle.store.specs.Look.{get, list, noFigures, figures, free}
 use Rattle.store.specs.Sync.{bothPlan, land, grown, syncDone, sync, unmountDone, unmount}
 use Rattle.bench_sheet.specs.Acts.{Act, makes, mounts, puts, removes, gets, frees, syncs, lands, unmounts, cuts, syncCuts, shows, reads, readsLine, refuses, counts, workCounts, sets, tops, stamps, sameLine, hasLine, isAnswer, isReport, isRoom, stepsDone, run, all}
@@ -103,10 +103,10 @@ others =
 
 -- every starred line of the bench sheet holds
 pub sheet : all starred ≡ true
-unfolding all starred run sameLine hasLine isAnswer isReport stepsDone ten four inRun every pairwise firstAt eqList part over splice setPart pad wordAt words wordBytes sec setSec applySteps unless diffSteps writesIn gN gP gDir gF geoOk countOf geoOf tableFrom tableOf stampOf alive showing stampOk deadBelow tableOk tableIn asIs sameStamp standing becomesOld versionOf versionBytes newOf oldOf nameBytes entryOf entryBytes shownBytes shown goodName nameOf nameOk sectorsFor runOk versionOk entryOk changed sectorEntries entriesFrom entriesOf spotsFrom spotOf setEntry gone apart named bitAt putDigit putBit setRun bitsN bitsOf clearIn clearBits merge allClear findRun lowestRun runFor outside wanted bitsOk bytesToS pageOk dataFrom dataTo freshPage indexOf groupBytes groupOf everyGroup indexIn pairOk groupOk indexOk shownPage pageAt mapFrom pageIn changedIndex pageBefore changedRun changeRun changeBits guard need ended refused done consFile filesOf cover contentOf runOf runAt getPlan getEnd listPlan listEnd viewOk soundIn shapeOk sound blockBytes freshGroup freshGroups freshIndex freshPages freshCard makePlan make filesIn filesShown pageShown readPlan read readList readGet ownStamp presentView presentTable cutTable presentPage cutPage presentFiles sessionFiles sizesOk headOk wordOk stampAtMost entryAtMost groupAtMost indexAtMost fitsIn fits setCount setWord tableSector mountSteps syncSteps atTop downSteps unmountStepsBy unmountSteps countedBy unmountCount syncWork downWork unmountWorkBy unmountWork mountPlan openedFrom mountDone mount orElse putPlace placeIn runIn putPlan putContent editWork putRun putWork put removePlan removeWork remove get list free bothPlan land grown syncDone sync unmountDone unmount isRoom freeIn waits waitingIn noFigures figures
+unfolding all starred run sameLine hasLine isAnswer isReport stepsDone ten four inRun every pairwise firstAt eqList part over splice setPart pad wordAt words wordBytes sec setSec applySteps unless diffSteps writesIn gN gP gDir gF geoOk countOf geoOf tableFrom tableOf stampOf alive showing stampOk deadBelow tableOk tableIn asIs sameStamp standing becomesOld versionOf versionBytes newOf oldOf nameBytes entryOf entryBytes shownBytes shown goodName nameOf nameOk sectorsFor runOk versionOk entryOk changed sectorEntries entriesFrom entriesOf spotsFrom spotOf setEntry gone apart named bitAt putDigit putBit setRun bitsN bitsOf clearIn clearBits merge allClear findRun lowestRun runFor outside wanted bitsOk bytesToS pageOk dataFrom dataTo freshPage indexOf groupBytes groupOf everyGroup indexIn pairOk groupOk indexOk shownPage pageAt mapFrom pageIn changedIndex pageBefore changedRun changeRun changeBits guard need ended refused done consFile filesOf cover contentOf runOf runAt getPlan getEnd listPlan listEnd viewOk soundIn shapeOk sound blockBytes freshGroup freshGroups freshIndex freshPages freshCard makePlan make filesIn filesShown pageShown readPlan read readList readGet ownStamp presentView presentTable cutTable presentPage cutPage presentFiles sessionFiles sizesOk headOk wordOk stampAtMost entryAtMost groupAtMost indexAtMost fitsIn fits setCount setWord tableSector mountSteps syncSteps atTop downSteps unmountStepsBy unmountSteps countedBy unmountCount syncWork downWork unmountWorkBy unmountWork mountPlan openedFrom mountDone mount orElse putPlace placeIn runIn putPlan putContent editWork putRun putWork put removePlan removeWork remove get list free bothPlan land grown syncDone sync unmountDone unmount isRoom freeIn waits waitingIn noFigures figures runAfter goalRun putAt
 sheet = refl
 
 -- and so do these
 pub sheet-others : all others ≡ true
-unfolding all others run sameLine hasLine isAnswer isReport stepsDone ten four inRun every pairwise firstAt eqList part over splice setPart pad wordAt words wordBytes sec setSec applySteps unless diffSteps writesIn gN gP gDir gF geoOk countOf geoOf tableFrom tableOf stampOf alive showing stampOk deadBelow tableOk tableIn asIs sameStamp standing becomesOld versionOf versionBytes newOf oldOf nameBytes entryOf entryBytes shownBytes shown goodName nameOf nameOk sectorsFor runOk versionOk entryOk changed sectorEntries entriesFrom entriesOf spotsFrom spotOf setEntry gone apart named bitAt putDigit putBit setRun bitsN bitsOf clearIn clearBits merge allClear findRun lowestRun runFor outside wanted bitsOk bytesToS pageOk dataFrom dataTo freshPage indexOf groupBytes groupOf everyGroup indexIn pairOk groupOk indexOk shownPage pageAt mapFrom pageIn changedIndex pageBefore changedRun changeRun changeBits guard need ended refused done consFile filesOf cover contentOf runOf runAt getPlan getEnd listPlan listEnd viewOk soundIn shapeOk sound blockBytes freshGroup freshGroups freshIndex freshPages freshCard makePlan make filesIn filesShown pageShown readPlan read readList readGet ownStamp presentView presentTable cutTable presentPage cutPage presentFiles sessionFiles sizesOk headOk wordOk stampAtMost entryAtMost groupAtMost indexAtMost fitsIn fits setCount setWord tableSector mountSteps syncSteps atTop downSteps unmountStepsBy unmountSteps countedBy unmountCount syncWork downWork unmountWorkBy unmountWork mountPlan openedFrom mountDone mount orElse putPlace placeIn runIn putPlan putContent editWork putRun putWork put removePlan removeWork remove get list free bothPlan land grown syncDone sync unmountDone unmount isRoom freeIn waits waitingIn noFigures figures
+unfolding all others run sameLine hasLine isAnswer isReport stepsDone ten four inRun every pairwise firstAt eqList part over splice setPart pad wordAt words wordBytes sec setSec applySteps unless diffSteps writesIn gN gP gDir gF geoOk countOf geoOf tableFrom tableOf stampOf alive showing stampOk deadBelow tableOk tableIn asIs sameStamp standing becomesOld versionOf versionBytes newOf oldOf nameBytes entryOf entryBytes shownBytes shown goodName nameOf nameOk sectorsFor runOk versionOk entryOk changed sectorEntries entriesFrom entriesOf spotsFrom spotOf setEntry gone apart named bitAt putDigit putBit setRun bitsN bitsOf clearIn clearBits merge allClear findRun lowestRun runFor outside wanted bitsOk bytesToS pageOk dataFrom dataTo freshPage indexOf groupBytes groupOf everyGroup indexIn pairOk groupOk indexOk shownPage pageAt mapFrom pageIn changedIndex pageBefore changedRun changeRun changeBits guard need ended refused done consFile filesOf cover contentOf runOf runAt getPlan getEnd listPlan listEnd viewOk soundIn shapeOk sound blockBytes freshGroup freshGroups freshIndex freshPages freshCard makePlan make filesIn filesShown pageShown readPlan read readList readGet ownStamp presentView presentTable cutTable presentPage cutPage presentFiles sessionFiles sizesOk headOk wordOk stampAtMost entryAtMost groupAtMost indexAtMost fitsIn fits setCount setWord tableSector mountSteps syncSteps atTop downSteps unmountStepsBy unmountSteps countedBy unmountCount syncWork downWork unmountWorkBy unmountWork mountPlan openedFrom mountDone mount orElse putPlace placeIn runIn putPlan putContent editWork putRun putWork put removePlan removeWork remove get list free bothPlan land grown syncDone sync unmountDone unmount isRoom freeIn waits waitingIn noFigures figures runAfter goalRun putAt
 sheet-others = refl

@@ -12,7 +12,7 @@ ghost use Rattle.entries.specs.Entries.{entryOf, changed, goodName, sectorsFor}
 ghost use Rattle.directory.specs.Directory.{entriesOf, named};
 ghost use Rattle.session.specs.Views.{ownStamp, presentTable};
 ghost use Rattle.session.specs.Fits.{fits};
-ghost use Rattle.store.specs.Edit.{placeIn, runIn, putContent, editWork, putWork, removeWork};
+ghost use Rattle.store.specs.Edit.{putContent, editWork, putWork, removeWork};
 ghost use Rattle.store.specs.EditLaws.{CanEdit};
 use entries::Entry;
 use entries::Run;
@@ -90,9 +90,9 @@ fn edit(
     bitmap::change_bits(work, g, present, own, a, k, earlier.start, earlier.sectors)
 }
 
-// Put in the working image: entry j and the run at a are what its searches found.
+// Put in the working image: entry j and the run at a, as its searches find them, can take it.
 pub fn put_in(s: Opened, work: &mut [u8], name: &[u8], content: &[u8], j: usize, a: usize)
-    requires { ⌜ (fits s (now work) ≡ true) × ((goodName (now name) ≡ true) × ((placeIn s (now work) (now name) ≡ At j) × (runIn s (now work) (sectorsFor (length (now content))) ≡ At a))) ⌝ }
+    requires { ⌜ CanEdit s (now work) j a (sectorsFor (length (now content))) (now name) (now content) ⌝ }
     ensures { λ _. ⌜ now (work .exit) ≡ putWork s j a (now (work .entry)) (now (name .entry)) (now (content .entry)) ⌝ }
 {
     let k = sectors_of(content) as u32;

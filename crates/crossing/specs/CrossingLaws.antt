@@ -18,7 +18,7 @@ use Rattle.session.specs.declared.Opened.{Opened}
 use Rattle.session.specs.declared.Session.{Session}
 use Rattle.session.specs.declared.Session.the-variants.{Closed, Open}
 use Rattle.store.specs.declared.Room.{Room}
-use Rattle.store.specs.Edit.{put}
+use Rattle.store.specs.Edit.{put, putAt}
 use Rattle.store.specs.Look.{free}
 use Rattle.store.specs.Mount.{Ended}
 use Rattle.store.specs.Sync.{land, sync}
@@ -98,6 +98,10 @@ changed-over f {s} {z} {a} {w} q e =
 pub put-over : (b work n d : List ℕ) {s : Session} {a : Answer} {w : List ℕ} → s ≡ decoded b → (a ≡ put s work n d .answer) × (w ≡ put s work n d .image)
     → (a .number ≡ put (decoded b) work n d .answer .number) × (w ≡ put (decoded b) work n d .image)
 put-over b work n d q e = changed-over (λ s. put s work n d) q e
+
+pub put-at-over : (b work n d : List ℕ) (goal : ℕ) {s : Session} {a : Answer} {w : List ℕ} → s ≡ decoded b → (a ≡ putAt s work n d goal .answer) × (w ≡ putAt s work n d goal .image)
+    → (a .number ≡ putAt (decoded b) work n d goal .answer .number) × (w ≡ putAt (decoded b) work n d goal .image)
+put-at-over b work n d goal q e = changed-over (λ s. putAt s work n d goal) q e
 
 pub land-over : (b card work : List ℕ) (i : ℕ) {s : Session} {a : Answer} {w : List ℕ} → s ≡ decoded b
     → (a ≡ land s card work i .answer) × (w ≡ land s card work i .image)

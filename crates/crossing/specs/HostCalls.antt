@@ -22,7 +22,7 @@ use Rattle.session.specs.declared.Opened.{Opened}
 use Rattle.session.specs.declared.Session.{Session}
 use Rattle.session.specs.declared.Session.the-variants.{Closed, Open}
 use Rattle.session.specs.FitLaws.{Fit}
-use Rattle.store.specs.Edit.{put}
+use Rattle.store.specs.Edit.{put, putAt}
 use Rattle.store.specs.Look.{free}
 use Rattle.store.specs.Mount.{Ended, mountPlan, openedFrom, mountDone, mount}
 use Rattle.store.specs.Steps.{atTop}
@@ -46,8 +46,9 @@ pub mount-stays : (card work : List ℕ) → mount card work .answer .number ≢
     → (encoded (mount card work .session) ≡ replicate 24 0) × (mount card work .card ≡ card) × (mount card work .work ≡ work)
 mount-stays card work n = let (s, c, w, z) = refusals .ofMount card work n in (ap encoded s ∙ closed-zeros, c, w)
 
-pub put-stays : (s : Session) (work n d : List ℕ) → put s work n d .answer .number ≢ 0 → put s work n d .image ≡ work
-put-stays s work n d h = refusals .ofPut s work n d h .0
+-- put without a goal is the one with goal 0
+pub put-stays : (s : Session) (work n d : List ℕ) (goal : ℕ) → putAt s work n d goal .answer .number ≢ 0 → putAt s work n d goal .image ≡ work
+put-stays s work n d goal h = refusals .ofPut s work n d goal h .0
 
 pub land-stays : (s : Session) (card work : List ℕ) (i : ℕ) → land s card work i .answer .number ≢ 0 → land s card work i .image ≡ card
 land-stays s card work i h = refusals .ofLand s card work i h .0

@@ -1,6 +1,6 @@
 // Put and remove: a call's tests in the order of the table, then the change.
 ghost use mathlib.Core.Path.{_≡_};
-ghost use Rattle.store.specs.Edit.{put, remove};
+ghost use Rattle.store.specs.Edit.{putAt, put, remove};
 use card::Answer;
 use card::refusal;
 use card::success;
@@ -9,12 +9,19 @@ use change::remove_in;
 use find::put_place;
 use find::run_in;
 use find::sectors_of;
+use sectors::Sector;
 use session::Session;
 use words::Found;
 
-// "put 4, 2, 9, 5, 7, 8"
-pub fn put(session: Session, work: &mut [u8], name: &[u8], content: &[u8]) -> Answer
-    ensures { λ r. ⌜ (r ≡ put session (now (work .entry)) (now (name .entry)) (now (content .entry)) .answer) × (now (work .exit) ≡ put session (now (work .entry)) (now (name .entry)) (now (content .entry)) .image) ⌝ }
+// Put with a goal: "4, 2, 9, 5", "11 for a goal of S or more, after 5 and before 7", "7, 8"
+pub fn put_at(
+    session: Session,
+    work: &mut [u8],
+    name: &[u8],
+    content: &[u8],
+    goal: Sector,
+) -> Answer
+    ensures { λ r. ⌜ (r ≡ putAt session (now (work .entry)) (now (name .entry)) (now (content .entry)) (goal .0) .answer) × (now (work .exit) ≡ putAt session (now (work .entry)) (now (name .entry)) (now (content .entry)) (goal .0) .image) ⌝ }
 {
     let Session::Open(s) = session else {
         return refusal(4);
@@ -30,15 +37,25 @@ pub fn put(session: Session, work: &mut [u8], name: &[u8], content: &[u8]) -> An
     if !good {
         return refusal(5);
     }
+    if s.geo.s <= goal.0 {
+        return refusal(11);
+    }
     let Found::At(j) = put_place(s, work, name) else {
         return refusal(7);
     };
     let k = sectors_of(content);
-    let Found::At(a) = run_in(s, work, k) else {
+    let Found::At(a) = run_in(s, work, k, goal) else {
         return refusal(8);
     };
     put_in(s, work, name, content, j, a);
     success(0)
+}
+
+// "Goal 0 is today's rule, and calls without a goal keep it": put 4, 2, 9, 5, 7, 8
+pub fn put(session: Session, work: &mut [u8], name: &[u8], content: &[u8]) -> Answer
+    ensures { λ r. ⌜ (r ≡ put session (now (work .entry)) (now (name .entry)) (now (content .entry)) .answer) × (now (work .exit) ≡ put session (now (work .entry)) (now (name .entry)) (now (content .entry)) .image) ⌝ }
+{
+    put_at(session, work, name, content, Sector(0))
 }
 
 // "remove 4, 2, 9, 5, 6"

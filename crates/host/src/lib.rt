@@ -10,7 +10,7 @@
 ghost use mathlib.Core.Path.{_≡_};
 ghost use Rattle.card.specs.Make.{make};
 ghost use Rattle.card.specs.Reading.{read};
-ghost use Rattle.store.specs.Edit.{put};
+ghost use Rattle.store.specs.Edit.{put, putAt};
 ghost use Rattle.store.specs.Look.{free};
 ghost use Rattle.store.specs.Mount.{mount};
 ghost use Rattle.store.specs.Sync.{land, sync};
@@ -25,6 +25,7 @@ use crossing::encoded;
 use crossing::report_bytes;
 use crossing::room_bytes;
 use edits::put;
+use edits::put_at;
 use fresh::make;
 use looks::free;
 use reading::read;
@@ -71,6 +72,23 @@ pub extern "C" fn store_put(session: &[u8; 24], work: &mut [u8], name: &[u8], co
     let b = *session;
     let s = decoded(b);
     let a = put(s, work, name, content);
+    a.number
+}
+
+// Put with a goal sector: "4, 2, 9, 5", 11, "7, 8"
+#[no_mangle]
+pub extern "C" fn store_put_at(
+    session: &[u8; 24],
+    work: &mut [u8],
+    name: &[u8],
+    content: &[u8],
+    goal: u32,
+) -> u32
+    ensures { λ r. ⌜ (r ≡ putAt (decoded (now (session .entry))) (now (work .entry)) (now (name .entry)) (now (content .entry)) goal .answer .number) × (now (work .exit) ≡ putAt (decoded (now (session .entry))) (now (work .entry)) (now (name .entry)) (now (content .entry)) goal .image) ⌝ }
+{
+    let b = *session;
+    let s = decoded(b);
+    let a = put_at(s, work, name, content, Sector(goal));
     a.number
 }
 

@@ -13,7 +13,7 @@ use Rattle.card.specs.Make.{freshCard, make}
 use Rattle.session.specs.declared.Session.{Session}
 use Rattle.session.specs.declared.Session.the-variants.{Closed, Open}
 use Rattle.store.specs.Mount.{mount}
-use Rattle.store.specs.Edit.{put, remove}
+use Rattle.store.specs.Edit.{putAt, remove}
 use Rattle.store.specs.Look.{get, list, free}
 use Rattle.store.specs.Sync.{land, sync, unmount}
 use Rattle.promises.specs.PlainList.{Item, without, With}
@@ -42,7 +42,7 @@ pub data Does : Call → Plain → Plain → Type 0 where
   -- the session shows what is kept
   mounts : (p : Plain) → Does mountC p (inSession (p .kept) (p .kept))
   -- the name's content is replaced or added, all others stay in their order
-  puts : (n d : List ℕ) {k l m : List Item} → With n d l m → Does (putC n d) (inSession k l) (inSession k m)
+  puts : (n d : List ℕ) (goal : ℕ) {k l m : List Item} → With n d l m → Does (putC n d goal) (inSession k l) (inSession k m)
   -- the name is gone, all others stay in their order
   removes : (n : List ℕ) (k l : List Item) → Does (removeC n) (inSession k l) (inSession k (without n l))
   -- what the session shows is kept
@@ -60,7 +60,7 @@ refusedBy (makeC g) p = p
 refusedBy mountC p = atRest (p .kept)
 refusedBy syncC p = p
 refusedBy unmountC p = p
-refusedBy (putC n d) p = p
+refusedBy (putC n d goal) p = p
 refusedBy (removeC n) p = p
 refusedBy (landC i) p = p
 refusedBy (getC n out) p = p
@@ -78,7 +78,7 @@ givesAt (makeC g) w = make g (w .card) .answer .number
 givesAt mountC w = mount (w .card) (w .work) .answer .number
 givesAt syncC w = sync (w .session) (w .card) (w .work) .answer .number
 givesAt unmountC w = unmount (w .session) (w .card) (w .work) .answer .number
-givesAt (putC n d) w = put (w .session) (w .work) n d .answer .number
+givesAt (putC n d goal) w = putAt (w .session) (w .work) n d goal .answer .number
 givesAt (removeC n) w = remove (w .session) (w .work) n .answer .number
 givesAt (landC i) w = land (w .session) (w .card) (w .work) i .answer .number
 givesAt (getC n out) w = get (w .session) (w .work) n out .answer .number

@@ -13,7 +13,7 @@ use Rattle.session.specs.declared.Session.{Session}
 use Rattle.session.specs.declared.Session.the-variants.{Closed, Open}
 use Rattle.session.specs.FitMeansProved.{fits-mean}
 use Rattle.store.specs.Mount.{Ended, mountDone, mount}
-use Rattle.store.specs.Edit.{put, remove}
+use Rattle.store.specs.Edit.{putAt, remove}
 use Rattle.store.specs.Sync.{land, syncDone, sync, unmount}
 use Rattle.store.specs.Plans.{both-num, mount-num}
 use Rattle.promises.specs.PlainList.{Item, shownBy, shownIn}
@@ -64,14 +64,14 @@ moves-make w g = by-number (makeC g) (make g (w .card) .answer .number) (plainOf
     go : make g (w .card) .answer .number ≡ 0 → Does (makeC g) (plainOf w) (plainOf (afterCut (make g (w .card) .image) (w .work)))
     go z = unfold afterCut nowOf in rw (make-shows g (w .card) z) (makes g (plainOf w))
 
-moves-put : (w : World) (n d : List ℕ) → Moves (putC n d) (givesAt (putC n d) w) (plainOf w) (plainOf (after (putC n d) w))
+moves-put : (w : World) (n d : List ℕ) (goal : ℕ) → Moves (putC n d goal) (givesAt (putC n d goal) w) (plainOf w) (plainOf (after (putC n d goal) w))
 unfolding after edited givesAt
-moves-put w n d = by-number (putC n d) (put (w .session) (w .work) n d .answer .number) (plainOf w) _ w (λ z. go (w .session) z) (unfold refusedBy in refl)
+moves-put w n d goal = by-number (putC n d goal) (putAt (w .session) (w .work) n d goal .answer .number) (plainOf w) _ w (λ z. go (w .session) z) (unfold refusedBy in refl)
   where
-    go : (o : Session) → put o (w .work) n d .answer .number ≡ 0
-        → Does (putC n d) (record { kept = w .last; now = nowOf o (w .work) }) (record { kept = w .last; now = nowOf o (put o (w .work) n d .image) })
-    go Closed z = unfold put refused in absurd (omega (arith, z))
-    go (Open s) z = unfold nowOf in puts n d (put-answers (Open s) (w .work) n d z)
+    go : (o : Session) → putAt o (w .work) n d goal .answer .number ≡ 0
+        → Does (putC n d goal) (record { kept = w .last; now = nowOf o (w .work) }) (record { kept = w .last; now = nowOf o (putAt o (w .work) n d goal .image) })
+    go Closed z = unfold putAt refused in absurd (omega (arith, z))
+    go (Open s) z = unfold nowOf in puts n d goal (put-answers (Open s) (w .work) n d goal z)
 
 moves-remove : (w : World) (n : List ℕ) → Moves (removeC n) (givesAt (removeC n) w) (plainOf w) (plainOf (after (removeC n) w))
 unfolding after edited givesAt
@@ -144,7 +144,7 @@ moves w r (makeC g) = moves-make w g
 moves w r mountC = moves-mount (w .session) (w .card) (w .work) (w .pending) (w .last) (card-possible w r .1 .shows)
 moves w r syncC = moves-sync w
 moves w r unmountC = moves-unmount w
-moves w r (putC n d) = moves-put w n d
+moves w r (putC n d goal) = moves-put w n d goal
 moves w r (removeC n) = moves-remove w n
 moves w r (landC i) = moves-land w i
 moves w r (getC n out) = unfold after refusedBy in still (getC n out) (givesAt (getC n out) w) (plainOf w) (gets n out (plainOf w)) refl

@@ -26,7 +26,7 @@ use Rattle.session.specs.declared.Session.{Session}
 use Rattle.session.specs.declared.Session.the-variants.{Closed, Open}
 use Rattle.session.specs.Views.{cutTable, presentPage, cutPage}
 use Rattle.session.specs.FitLaws.{Fit, fit-inv, present-live}
-use Rattle.store.specs.Edit.{putPlace, placeIn, runIn, putPlan, putRun, putWork, put, removePlan, removeWork, remove}
+use Rattle.store.specs.Edit.{putPlace, placeIn, runIn, putPlan, putRun, putWork, putAt, removePlan, removeWork, remove}
 use Rattle.store.specs.PlaceLaws.{Named, name-found, place-named}
 use Rattle.store.specs.Plans.{put-inv, put-num, remove-inv, remove-num}
 use Rattle.promises.specs.PlainList.{without, With, shownIn}
@@ -39,7 +39,7 @@ use Rattle.promises.specs.Answered.{gone-now, added-now}
 
 -- "put": the name's content is replaced or added, all others stay in their order
 abbrev pub PutAnswers : Type 0
-PutAnswers = (s : Session) (work n d : List ℕ) → put s work n d .answer .number ≡ 0 → With n d (shownIn s work) (shownIn s (put s work n d .image))
+PutAnswers = (s : Session) (work n d : List ℕ) (goal : ℕ) → putAt s work n d goal .answer .number ≡ 0 → With n d (shownIn s work) (shownIn s (putAt s work n d goal .image))
 
 -- "remove": the name is gone, all others stay in their order
 abbrev pub RemoveAnswers : Type 0
@@ -65,28 +65,28 @@ module _ (s : Opened) (work : List ℕ) (F : Fit s work) (live : s .worn ≡ fal
   unfolding placeIn cutTable
   place-live n j e = rw (present-live s (sec work) live) at e
 
-  pub run-live : (k a : ℕ) → runIn s work k ≡ At a → runFor k (pageIn (s .geo) (tpOf s work) (sec work)) (pageIn (s .geo) (tcOf s work) (sec work)) ≡ At a
+  pub run-live : (k goal a : ℕ) → runIn s work k goal ≡ At a → runFor k goal (pageIn (s .geo) (tpOf s work) (sec work)) (pageIn (s .geo) (tcOf s work) (sec work)) ≡ At a
   unfolding runIn presentPage cutPage cutTable
-  run-live k a e = rw (present-live s (sec work) live) at e
+  run-live k goal a e = rw (present-live s (sec work) live) at e
 
   -- the sectors of put's run: clear in the present page, and in no file of the present view
-  pub run-free : (k a : ℕ) → runIn s work k ≡ At a → (i : ℕ) → a ≤ i → i < a + k → cover (filesOf (tpOf s work) (entriesOf (s .geo) (sec work))) i ≡ 0
-  run-free k a e i lo hi =
+  pub run-free : (k goal a : ℕ) → runIn s work k goal ≡ At a → (i : ℕ) → a ≤ i → i < a + k → cover (filesOf (tpOf s work) (entriesOf (s .geo) (sec work))) i ≡ 0
+  run-free k goal a e i lo hi =
       let wc = page-wide (s .geo) (gN (s .geo)) (tcOf s work) work (F .shape) (F .sized) (cut s work F live) in
       let wp = page-wide (s .geo) (s .c .0) (tpOf s work) work (F .shape) (F .sized) (pres s work F live) in
-      let w = run-clear k a _ _ (wp ∙ sym wc) (run-live k a e) i lo hi in
+      let w = run-clear k goal a _ _ (wp ∙ sym wc) (run-live k goal a e) i lo hi in
       clear-bit (s .geo) (s .c .0) (tpOf s work) (sec work) (F .shape) (pres s work F live) wp i (omega (arith, w .2, wp)) (w .0) .1
 
-put-open : (s : Opened) (work n d : List ℕ) (j a : ℕ) → putPlan s work n d ≡ doIt j a → With n d (shownIn (Open s) work) (shownIn (Open s) (putWork s j a work n d))
+put-open : (s : Opened) (work n d : List ℕ) (goal j a : ℕ) → putPlan s work n d goal ≡ doIt j a → With n d (shownIn (Open s) work) (shownIn (Open s) (putWork s j a work n d))
 unfolding putWork
-put-open s work n d j a h =
-    let p = put-inv s work n d j a h in
+put-open s work n d goal j a h =
+    let p = put-inv s work n d goal j a h in
     let F = fit-inv s work (p .fit) in
     let e = place-live s work F (p .live) n j (p .entry) in
-    added-now s j a (sectorsFor (length d)) (Present (putRun a d)) work n d (sec work) (put-ready s work (sec work) refl n d j a h)
+    added-now s j a (sectorsFor (length d)) (Present (putRun a d)) work n d (sec work) (put-ready s work (sec work) refl n d goal j a h)
     (place-alone (tpOf s work) (tcOf s work) n (entriesOf (s .geo) (sec work)) j (apart-live s work F (p .live)) e)
     (named-live s work F (p .live) n j (place-named (tpOf s work) (tcOf s work) n (entriesOf (s .geo) (sec work)) j e))
-    (run-free s work F (p .live) (sectorsFor (length d)) a (p .run)) refl refl
+    (run-free s work F (p .live) (sectorsFor (length d)) goal a (p .run)) refl refl
 
 remove-open : (s : Opened) (work n : List ℕ) (j a : ℕ) → removePlan s work n ≡ doIt j a → shownIn (Open s) (removeWork s j work n) ≡ without n (shownIn (Open s) work)
 unfolding removeWork
@@ -102,11 +102,11 @@ remove-open s work n j a h =
 -- ---- proved
 
 pub put-answers : PutAnswers
-unfolding put refused
-put-answers Closed work n d h = absurd (omega arith)
-put-answers (Open s) work n d h =
-    let (j, a, e) = done-plan work (λ i b. record { answer = done 0; image = putWork s i b work n d }) (put-num s work n d) h in
-    rw e (unfold ended in put-open s work n d j a e)
+unfolding putAt refused
+put-answers Closed work n d goal h = absurd (omega arith)
+put-answers (Open s) work n d goal h =
+    let (j, a, e) = done-plan work (λ i b. record { answer = done 0; image = putWork s i b work n d }) (put-num s work n d goal) h in
+    rw e (unfold ended in put-open s work n d goal j a e)
 
 pub remove-answers : RemoveAnswers
 unfolding remove refused

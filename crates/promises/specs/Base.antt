@@ -68,6 +68,6 @@ module _ (s : Opened) (img₀ : List ℕ) (B : Base s img₀) (work : List ℕ) 
   unfolding removeWork
   remove-left n j a h = left j 0 0 Absent n [] (remove-ready s work (sec img₀) same-files n j a h)
 
-  pub put-left : (n d : List ℕ) (j a : ℕ) → putPlan s work n d ≡ doIt j a → Kept (putWork s j a work n d)
+  pub put-left : (n d : List ℕ) (goal j a : ℕ) → putPlan s work n d goal ≡ doIt j a → Kept (putWork s j a work n d)
   unfolding putWork
-  put-left n d j a h = left j a (sectorsFor (length d)) (Present (putRun a d)) n d (put-ready s work (sec img₀) same-files n d j a h)
+  put-left n d goal j a h = left j a (sectorsFor (length d)) (Present (putRun a d)) n d (put-ready s work (sec img₀) same-files n d goal j a h)

@@ -67,9 +67,9 @@ module _ (s : Opened) (work : List ℕ) (k₀ : Cells) (same-files : filesIn (s 
         clear = λ i lo hi. absurd (omega arith);
       }
 
-  pub put-ready : (n d : List ℕ) (j a : ℕ) → putPlan s work n d ≡ doIt j a → Ready s j a (sectorsFor (length d)) (Present (putRun a d)) work n d k₀
-  put-ready n d j a h =
-      let p = put-inv s work n d j a h in
+  pub put-ready : (n d : List ℕ) (goal j a : ℕ) → putPlan s work n d goal ≡ doIt j a → Ready s j a (sectorsFor (length d)) (Present (putRun a d)) work n d k₀
+  put-ready n d goal j a h =
+      let p = put-inv s work n d goal j a h in
       let F = fit-inv s work (p .fit) in
       let N = place-named (tpOf s work) (tcOf s work) n (entriesOf (s .geo) (sec work)) j (rw (present-live s (sec work) (p .live)) at (open-place (p .entry))) in
       let wc = page-wide (s .geo) (gN (s .geo)) (tcOf s work) work (F .shape) (F .sized) (cut s work F (p .live)) in
@@ -77,19 +77,19 @@ module _ (s : Opened) (work : List ℕ) (k₀ : Cells) (same-files : filesIn (s 
       let run = rw (present-live s (sec work) (p .live)) at (open-run (p .run)) in
       let r : (i : ℕ) → a ≤ i → i < a + sectorsFor (length d) → InData (s .geo) i × (cover (filesOf (tcOf s work) (entriesOf (s .geo) (sec work))) i ≡ 0) =
       λ i lo hi.
-      let w = run-clear (sectorsFor (length d)) a _ _ (wp ∙ sym wc) run i lo hi in
+      let w = run-clear (sectorsFor (length d)) goal a _ _ (wp ∙ sym wc) run i lo hi in
       clear-bit (s .geo) (gN (s .geo)) (tcOf s work) (sec work) (F .shape) (cut s work F (p .live)) wc i (omega (arith, w .2, wp)) (w .1) in
-      let f : a + sectorsFor (length d) ≤ s .geo .s = run-fits (sectorsFor (length d)) a (s .geo .s) _ _ run (λ i lo hi. r i lo hi .0 .1) in
+      let f : a + sectorsFor (length d) ≤ s .geo .s = run-fits (sectorsFor (length d)) goal a (s .geo .s) _ _ run (λ i lo hi. r i lo hi .0 .1) in
       record {
         fit = F;
         live = p .live;
         below = N .below;
         short = short-name n (p .name);
-        good = good r f run (run-page (sectorsFor (length d)) a _ _ (wp ∙ sym wc) run);
+        good = good r f run (run-page (sectorsFor (length d)) goal a _ _ (wp ∙ sym wc) run);
         named = named-is n j F (p .live) N;
         inside = λ i lo hi. r i lo hi .0 .0;
         fits = f;
-        page = run-page (sectorsFor (length d)) a _ _ (wp ∙ sym wc) run;
+        page = run-page (sectorsFor (length d)) goal a _ _ (wp ∙ sym wc) run;
         enough = enough;
         clear = λ i lo hi q. omega (arith, r i lo hi .1, held-cover _ i (still q));
       }
@@ -98,8 +98,8 @@ module _ (s : Opened) (work : List ℕ) (k₀ : Cells) (same-files : filesIn (s 
           → putPlace (presentTable s (sec work)) (tcOf s work) n (entriesOf (s .geo) (sec work)) ≡ At j
       open-place e = unfold placeIn cutTable in e
 
-      open-run : runIn s work (sectorsFor (length d)) ≡ At a
-          → runFor (sectorsFor (length d)) (pageIn (s .geo) (presentTable s (sec work)) (sec work)) (pageIn (s .geo) (tcOf s work) (sec work))
+      open-run : runIn s work (sectorsFor (length d)) goal ≡ At a
+          → runFor (sectorsFor (length d)) goal (pageIn (s .geo) (presentTable s (sec work)) (sec work)) (pageIn (s .geo) (tcOf s work) (sec work))
           ≡ At a
       open-run e = unfold runIn presentPage cutPage cutTable in e
 
@@ -111,8 +111,8 @@ module _ (s : Opened) (work : List ℕ) (k₀ : Cells) (same-files : filesIn (s 
 
       good : ((i : ℕ) → a ≤ i → i < a + sectorsFor (length d) → InData (s .geo) i × (cover (filesOf (tcOf s work) (entriesOf (s .geo) (sec work))) i ≡ 0))
           → a + sectorsFor (length d) ≤ s .geo .s
-          → runFor (sectorsFor (length d)) (pageIn (s .geo) (tpOf s work) (sec work)) (pageIn (s .geo) (tcOf s work) (sec work))
+          → runFor (sectorsFor (length d)) goal (pageIn (s .geo) (tpOf s work) (sec work)) (pageIn (s .geo) (tcOf s work) (sec work))
           ≡ At a
           → a % 4096 + sectorsFor (length d) ≤ 4096
           → GoodVersion (s .geo) (Present (putRun a d))
-      good r f run page = unfold putRun in record { size = refl; span = λ l. (r a (omega arith) (omega arith) .0 .0, f); empty = λ z. run-for-none _ a _ _ run z; page = page }
+      good r f run page = unfold putRun in record { size = refl; span = λ l. (r a (omega arith) (omega arith) .0 .0, f); empty = λ z. run-for-none _ goal a _ _ run z; page = page }

@@ -16,7 +16,7 @@ use Rattle.session.specs.declared.Session.{Session}
 use Rattle.session.specs.declared.Session.the-variants.{Closed, Open}
 use Rattle.store.specs.Steps.{allSteps, allDown, atTop, syncWork, unmountWork}
 use Rattle.store.specs.Mount.{Ended}
-use Rattle.store.specs.Edit.{put, remove}
+use Rattle.store.specs.Edit.{putAt, remove}
 use Rattle.store.specs.Sync.{bothPlan, grown, sync, unmount}
 use Rattle.promises.specs.History.{World, Call, makeC, mountC, syncC, unmountC, putC, removeC, landC, getC, listC, freeC, byNumber, Reach, fresh, call, cut, cutIn}
 
@@ -73,7 +73,7 @@ changesBy (makeC g) w n = n
 changesBy mountC w n = 0
 changesBy syncC w n = byNumber (sync (w .session) (w .card) (w .work) .answer .number) 0 n
 changesBy unmountC w n = byNumber (unmount (w .session) (w .card) (w .work) .answer .number) 0 n
-changesBy (putC name d) w n = byNumber (put (w .session) (w .work) name d .answer .number) (sectorsFor (length d) + 1 + n) n
+changesBy (putC name d goal) w n = byNumber (putAt (w .session) (w .work) name d goal .answer .number) (sectorsFor (length d) + 1 + n) n
 changesBy (removeC name) w n = byNumber (remove (w .session) (w .work) name .answer .number) (1 + n) n
 changesBy (landC i) w n = n
 changesBy (getC name out) w n = n

@@ -36,22 +36,22 @@ use Rattle.promises.specs.Synced.{sync-length, sync-other, sync-table, r
 
 -- ---- put and remove
 
-pub put-fits : (s : Opened) (work n d : List ℕ) (j a : ℕ) → putPlan s work n d ≡ doIt j a → Fit s (putWork s j a work n d)
+pub put-fits : (s : Opened) (work n d : List ℕ) (goal j a : ℕ) → putPlan s work n d goal ≡ doIt j a → Fit s (putWork s j a work n d)
 unfolding putWork
-put-fits s work n d j a h =
-    let p = put-inv s work n d j a h in
+put-fits s work n d goal j a h =
+    let p = put-inv s work n d goal j a h in
     let F = fit-inv s work (p .fit) in
     let e = place-live s work F (p .live) n j (p .entry) in
     let wc = page-wide (s .geo) (gN (s .geo)) (tcOf s work) work (F .shape) (F .sized) (cut s work F (p .live)) in
     let wp = page-wide (s .geo) (s .c .0) (tpOf s work) work (F .shape) (F .sized) (pres s work F (p .live)) in
     fit-edit s j a (sectorsFor (length d)) (Present (putRun a d)) work n d
     (record {
-      ready = put-ready s work (sec work) refl n d j a h;
+      ready = put-ready s work (sec work) refl n d goal j a h;
       alone = place-alone (tpOf s work) (tcOf s work) n (entriesOf (s .geo) (sec work)) j (apart-live s work F (p .live)) e;
       named = named-live s work F (p .live) n j (place-named (tpOf s work) (tcOf s work) n (entriesOf (s .geo) (sec work)) j e);
-      free = run-free s work F (p .live) (sectorsFor (length d)) a (p .run);
+      free = run-free s work F (p .live) (sectorsFor (length d)) goal a (p .run);
       name = p .name;
-      clear = λ i lo hi. run-clear (sectorsFor (length d)) a _ _ (wp ∙ sym wc) (run-live s work F (p .live) (sectorsFor (length d)) a (p .run)) i lo hi .0;
+      clear = λ i lo hi. run-clear (sectorsFor (length d)) goal a _ _ (wp ∙ sym wc) (run-live s work F (p .live) (sectorsFor (length d)) goal a (p .run)) i lo hi .0;
       run = λ i. (unfold runOf putRun in refl);
     })
 

@@ -18,7 +18,7 @@ use Rattle.session.specs.Fits.{fits}
 use Rattle.session.specs.FitLaws.{Fit, fit-intro}
 use Rattle.store.specs.Steps.{mountSteps, syncSteps, unmountSteps, syncWork, atTop}
 use Rattle.store.specs.Mount.{Ended, openedFrom, mountDone, mount}
-use Rattle.store.specs.Edit.{put, remove}
+use Rattle.store.specs.Edit.{putAt, remove}
 use Rattle.store.specs.Sync.{land, grown, syncDone, sync, unmountDone, unmount}
 use Rattle.store.specs.Plans.{put-num, remove-num, both-num, make-num, mount-few, mount-good, mount-num, sync-live}
 use Rattle.promises.specs.PlainList.{Item, shownBy, shownIn}
@@ -49,12 +49,12 @@ unfolding after make refused done byNumber
 step-make g w h =
     by-plan (λ (r : Changed). r .answer .number) FitW w _ _ (λ r. afterCut (r .image) (w .work)) (λ k. refl) (make-num g (w .card)) h (λ j a e. cut-closed _ (w .work))
 
-step-put : (n d : List ℕ) (s : Session) (card work : List ℕ) (p : Pending) (m : List Item) → FitOf s work → FitW (after (putC n d) (mk card work s p m))
-unfolding after edited put refused done byNumber
-step-put n d Closed card work p m h = h
-step-put n d (Open s) card work p m h =
-    by-plan (λ (r : Changed). r .answer .number) FitW (mk card work (Open s) p m) _ _ (λ r. mk card (r .image) (Open s) (allWritten (r .image) p) m) (λ k. refl) (put-num s work n d) h
-    (λ j a e. fit-intro s _ (put-fits s work n d j a e))
+step-put : (n d : List ℕ) (goal : ℕ) (s : Session) (card work : List ℕ) (p : Pending) (m : List Item) → FitOf s work → FitW (after (putC n d goal) (mk card work s p m))
+unfolding after edited putAt refused done byNumber
+step-put n d goal Closed card work p m h = h
+step-put n d goal (Open s) card work p m h =
+    by-plan (λ (r : Changed). r .answer .number) FitW (mk card work (Open s) p m) _ _ (λ r. mk card (r .image) (Open s) (allWritten (r .image) p) m) (λ k. refl) (put-num s work n d goal) h
+    (λ j a e. fit-intro s _ (put-fits s work n d goal j a e))
 
 step-remove : (n : List ℕ) (s : Session) (card work : List ℕ) (p : Pending) (m : List Item) → FitOf s work → FitW (after (removeC n) (mk card work s p m))
 unfolding after edited remove refused done byNumber
@@ -125,7 +125,7 @@ step (makeC g) w h = step-make g w h
 step mountC w h = step-mount (w .session) (w .card) (w .work) (w .pending) (w .last)
 step syncC w h = step-sync (w .session) (w .card) (w .work) (w .pending) (w .last) h
 step unmountC w h = step-unmount (w .session) (w .card) (w .work) (w .pending) (w .last) h
-step (putC n d) w h = step-put n d (w .session) (w .card) (w .work) (w .pending) (w .last) h
+step (putC n d goal) w h = step-put n d goal (w .session) (w .card) (w .work) (w .pending) (w .last) h
 step (removeC n) w h = step-remove n (w .session) (w .card) (w .work) (w .pending) (w .last) h
 step (landC i) w h = step-land i (w .session) (w .card) (w .work) (w .pending) (w .last) h
 step (getC n out) w h = (unfold after in h)

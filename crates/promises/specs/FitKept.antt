@@ -11,7 +11,7 @@ use Rattle.session.specs.FitLaws.{fit-intro}
 use Rattle.session.specs.FitMeans.{Fits}
 use Rattle.session.specs.FitMeansProved.{fits-mean}
 use Rattle.store.specs.Mount.{Ended, openedFrom, mountDone, mount}
-use Rattle.store.specs.Edit.{put, remove}
+use Rattle.store.specs.Edit.{putAt, remove}
 use Rattle.store.specs.Sync.{syncDone, sync}
 use Rattle.store.specs.Plans.{put-num, remove-num, both-num, mount-few, mount-good, mount-num, sync-live}
 use Rattle.promises.specs.FitAll.{put-fits, remove-fits}
@@ -28,7 +28,7 @@ FitsIn (Open s) work = Fits s work
 -- land and unmount are not listed: land is lent neither the session nor the working image to change, and unmount closes the session
 pub record KeepsFit : Type 0 where
   pub ofMount : (card work : List ℕ) → FitsIn (mount card work .session) (mount card work .work)
-  pub ofPut : (s : Opened) (work n d : List ℕ) → Fits s work → Fits s (put (Open s) work n d .image)
+  pub ofPut : (s : Opened) (work n d : List ℕ) (goal : ℕ) → Fits s work → Fits s (putAt (Open s) work n d goal .image)
   pub ofRemove : (s : Opened) (work n : List ℕ) → Fits s work → Fits s (remove (Open s) work n .image)
   pub ofSync : (s : Opened) (card work : List ℕ) → Fits s work → FitsIn (sync (Open s) card work .session) (sync (Open s) card work .work)
 
@@ -42,10 +42,10 @@ of-mount card work =
     let (x, y) = mount-good card work j a e in
     unfold mountDone in fits-mean (openedFrom card) _ .0 (fit-intro (openedFrom card) _ (mount-fits card x y (mount-few card work j a e))))
 
-of-put : (s : Opened) (work n d : List ℕ) → Fits s work → Fits s (put (Open s) work n d .image)
-unfolding put
-of-put s work n d f =
-    passing (λ (r : Changed). Fits s (r .image)) _ _ (put-num s work n d) (λ k. f) (λ j a e. fits-mean s _ .0 (fit-intro s _ (put-fits s work n d j a e)))
+of-put : (s : Opened) (work n d : List ℕ) (goal : ℕ) → Fits s work → Fits s (putAt (Open s) work n d goal .image)
+unfolding putAt
+of-put s work n d goal f =
+    passing (λ (r : Changed). Fits s (r .image)) _ _ (put-num s work n d goal) (λ k. f) (λ j a e. fits-mean s _ .0 (fit-intro s _ (put-fits s work n d goal j a e)))
 
 of-remove : (s : Opened) (work n : List ℕ) → Fits s work → Fits s (remove (Open s) work n .image)
 unfolding remove

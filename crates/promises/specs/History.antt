@@ -21,7 +21,7 @@ use Rattle.session.specs.declared.Session.{Session}
 use Rattle.session.specs.declared.Session.the-variants.{Closed, Open}
 use Rattle.store.specs.Steps.{mountSteps, syncSteps, unmountSteps}
 use Rattle.store.specs.Mount.{Ended, mount}
-use Rattle.store.specs.Edit.{put, remove}
+use Rattle.store.specs.Edit.{putAt, remove}
 use Rattle.store.specs.Sync.{land, sync, unmount}
 use Rattle.promises.specs.PlainList.{Item, shownBy, shownIn}
 
@@ -71,7 +71,7 @@ pub record World : Type 0 where
 pub data Call : Type 0 where
   makeC : Geo → Call
   mountC syncC unmountC : Call
-  putC : List ℕ → List ℕ → Call
+  putC : List ℕ → List ℕ → ℕ → Call  -- a name, a content and a goal; put without a goal is the one with goal 0
   removeC : List ℕ → Call
   landC : ℕ → Call
   getC : List ℕ → List ℕ → Call
@@ -97,7 +97,7 @@ before (makeC g) w = w
 before mountC w = endOpen (w .session) w
 before syncC w = w
 before unmountC w = w
-before (putC n d) w = w
+before (putC n d goal) w = w
 before (removeC n) w = w
 before (landC i) w = w
 before (getC n out) w = w
@@ -119,7 +119,7 @@ stepsOf (makeC g) w = []
 stepsOf mountC w = byNumber (mount (w .card) (w .work) .answer .number) (mountSteps (w .card)) []
 stepsOf syncC w = byNumber (sync (w .session) (w .card) (w .work) .answer .number) (syncsBy (w .session) (w .card) (w .work)) []
 stepsOf unmountC w = byNumber (unmount (w .session) (w .card) (w .work) .answer .number) (unmountsBy (w .session) (w .card) (w .work)) []
-stepsOf (putC n d) w = []
+stepsOf (putC n d goal) w = []
 stepsOf (removeC n) w = []
 stepsOf (landC i) w = []
 stepsOf (getC n out) w = []
@@ -146,7 +146,7 @@ after (makeC g) w = byNumber (make g (w .card) .answer .number) (afterCut (make 
 after mountC w = let v = before mountC w in stepped v (mount (v .card) (v .work)) (stepsOf mountC v) (shownBy (v .card))
 after syncC w = stepped w (sync (w .session) (w .card) (w .work)) (stepsOf syncC w) (shownIn (w .session) (w .work))
 after unmountC w = stepped w (unmount (w .session) (w .card) (w .work)) (stepsOf unmountC w) (shownIn (w .session) (w .work))
-after (putC n d) w = edited w (put (w .session) (w .work) n d)
+after (putC n d goal) w = edited w (putAt (w .session) (w .work) n d goal)
 after (removeC n) w = edited w (remove (w .session) (w .work) n)
 after (landC i) w =
     let r = land (w .session) (w .card) (w .work) i in
@@ -183,7 +183,7 @@ isSync (makeC g) = false
 isSync mountC = false
 isSync syncC = true
 isSync unmountC = true
-isSync (putC n d) = false
+isSync (putC n d goal) = false
 isSync (removeC n) = false
 isSync (landC i) = false
 isSync (getC n out) = false

@@ -17,7 +17,7 @@ use Rattle.session.specs.declared.Session.{Session}
 use Rattle.session.specs.declared.Session.the-variants.{Closed, Open}
 use Rattle.store.specs.Steps.{tableSector}
 use Rattle.store.specs.Mount.{Ended, mount}
-use Rattle.store.specs.Edit.{put, remove}
+use Rattle.store.specs.Edit.{putAt, remove}
 use Rattle.store.specs.Sync.{land, sync, unmount}
 
 -- a sector 0 with count C: its first word is C, the rest of it stays
@@ -114,6 +114,6 @@ UnmountChanges = (s : Opened) (card work : List ℕ) → unmount (Open s) card w
 pub record CountsNothing : Type 0 where
   pub ofMake : (g : Geo) (card : List ℕ) → make g card .answer .count ≡ 0
   pub ofMount : (card work : List ℕ) → mount card work .answer .count ≡ 0
-  pub ofPut : (s : Session) (work n d : List ℕ) → put s work n d .answer .count ≡ 0
+  pub ofPut : (s : Session) (work n d : List ℕ) (goal : ℕ) → putAt s work n d goal .answer .count ≡ 0
   pub ofRemove : (s : Session) (work n : List ℕ) → remove s work n .answer .count ≡ 0
   pub ofLand : (s : Session) (card work : List ℕ) (i : ℕ) → land s card work i .answer .count ≡ 0

@@ -22,8 +22,8 @@ use Rattle.session.specs.FitLaws.{Fit, fit-inv}
 use Rattle.store.specs.Steps.{setCount, mountSteps}
 use Rattle.store.specs.StepLaws.{count-length, count-here, count-count}
 use Rattle.store.specs.Mount.{Ended, openedFrom, mountDone, mount}
-use Rattle.store.specs.Edit.{put, remove}
-use Rattle.store.specs.Sync.{bothPlan, land, sync, unmount}
+use Rattle.store.specs.Edit.{put, remove, putAt}
+use Rattle.store.specs.Sync.{bothPlan, land, sync, unmount, syncDone, unmountDone}
 use Rattle.store.specs.Plans.{both-inv, both-num, mount-few, mount-good, mount-num, sync-live}
 use Rattle.promises.specs.Play.{copied}
 use Rattle.promises.specs.Steady.{through}
@@ -120,10 +120,10 @@ count-mount : (card work : List ℕ) → mount card work .answer .count ≡ 0
 unfolding mount mountDone refused done
 count-mount card work = counts-none (λ (r : Ended). r .answer .count) _ _ (λ k. refl) (λ j a. refl) _
 
-count-put : (s : Session) (work n d : List ℕ) → put s work n d .answer .count ≡ 0
-unfolding put refused done
-count-put Closed work n d = refl
-count-put (Open s) work n d = counts-none (λ (r : Changed). r .answer .count) _ _ (λ k. refl) (λ j a. refl) _
+count-put : (s : Session) (work n d : List ℕ) (goal : ℕ) → putAt s work n d goal .answer .count ≡ 0
+unfolding putAt refused done
+count-put Closed work n d goal = refl
+count-put (Open s) work n d goal = counts-none (λ (r : Changed). r .answer .count) _ _ (λ k. refl) (λ j a. refl) _
 
 count-remove : (s : Session) (work n : List ℕ) → remove s work n .answer .count ≡ 0
 unfolding remove refused done

@@ -34,6 +34,7 @@ pub mod Steady
 pub mod FitKept
 pub mod Places
 pub mod PairLeaves
+pub mod Goals
 pub mod Leaves
 pub mod LeavesSync
 pub mod LeavesUnmount

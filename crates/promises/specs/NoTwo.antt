@@ -21,10 +21,10 @@ use Rattle.session.specs.declared.Session.{Session}
 use Rattle.session.specs.declared.Session.the-variants.{Closed, Open}
 use Rattle.session.specs.FitMeansProved.{fits-mean}
 use Rattle.store.specs.Mount.{mount}
-use Rattle.store.specs.Edit.{put, remove}
+use Rattle.store.specs.Edit.{putAt, remove}
 use Rattle.store.specs.Look.{get, list, free}
 use Rattle.store.specs.Sync.{land, sync, unmount}
-use Rattle.promises.specs.Numbers.{Row, row, Gives, Exactly, Misshapen, closed, ofCard, unfit, makeRows, mountRows, putRows, removeRows, getRows, listRows, freeRows, landRows, syncRows, unmountRows, readRows, readListRows, readGetRows}
+use Rattle.promises.specs.Numbers.{Row, row, Gives, Exactly, Misshapen, closed, ofCard, unfit, makeRows, mountRows, putAtRows, removeRows, getRows, listRows, freeRows, landRows, syncRows, unmountRows, readRows, readListRows, readGetRows}
 use Rattle.promises.specs.RowLaws.{small, at-most, clash}
 use Rattle.promises.specs.NumbersWhole.{outside}
 use Rattle.promises.specs.NumbersProved.{numbers}
@@ -36,7 +36,7 @@ use Rattle.promises.specs.Demand.{card-possible}
 
 -- in a history: the session's calls, whatever they are lent besides, and mount and reading of the card
 pub record NoTwo (w : World) : Type 0 where
-  pub ofPut : (n d : List ℕ) → put (w .session) (w .work) n d .answer .number ≢ 2
+  pub ofPut : (n d : List ℕ) (goal : ℕ) → putAt (w .session) (w .work) n d goal .answer .number ≢ 2
   pub ofRemove : (n : List ℕ) → remove (w .session) (w .work) n .answer .number ≢ 2
   pub ofGet : (n out : List ℕ) → get (w .session) (w .work) n out .answer .number ≢ 2
   pub ofList : (lines : List Line) → list (w .session) (w .work) lines .answer .number ≢ 2
@@ -53,7 +53,7 @@ pub record NoTwo (w : World) : Type 0 where
 pub record InTable : Type 0 where
   pub ofMake : (g : Geo) (card : List ℕ) → make g card .answer .number ≤ 11
   pub ofMount : (card work : List ℕ) → mount card work .answer .number ≤ 11
-  pub ofPut : (s : Session) (work n d : List ℕ) → put s work n d .answer .number ≤ 11
+  pub ofPut : (s : Session) (work n d : List ℕ) (goal : ℕ) → putAt s work n d goal .answer .number ≤ 11
   pub ofRemove : (s : Session) (work n : List ℕ) → remove s work n .answer .number ≤ 11
   pub ofGet : (s : Session) (work n out : List ℕ) → get s work n out .answer .number ≤ 11
   pub ofList : (s : Session) (work : List ℕ) (lines : List Line) → list s work lines .answer .number ≤ 11
@@ -104,7 +104,7 @@ no-two {w} r =
     let R = card-possible w r .1 in
     let c : Sound (w .card) = R .isSound in
     record {
-      ofPut = λ n d e. fitting (w .session) (w .work) (rest (rest (putRows (w .session) (w .work) n d))) f refl (numbers .ofPut (w .session) (w .work) n d 2 .0 e);
+      ofPut = λ n d goal e. fitting (w .session) (w .work) (rest (rest (putAtRows (w .session) (w .work) n d goal))) f refl (numbers .ofPutAt (w .session) (w .work) n d goal 2 .0 e);
       ofRemove = λ n e. fitting (w .session) (w .work) (rest (rest (removeRows (w .session) (w .work) n))) f refl (numbers .ofRemove (w .session) (w .work) n 2 .0 e);
       ofGet = λ n out e. fitting (w .session) (w .work) (rest (rest (getRows (w .session) (w .work) n out))) f refl (numbers .ofGet (w .session) (w .work) n out 2 .0 e);
       ofList = λ lines e. fitting (w .session) (w .work) (rest (rest (listRows (w .session) (w .work) lines))) f refl (numbers .ofList (w .session) (w .work) lines 2 .0 e);
@@ -128,7 +128,7 @@ in-table =
     record {
       ofMake = λ g card. in-rows (makeRows g card) refl (numbers .ofMake g card);
       ofMount = λ card work. in-rows (mountRows card work) refl (numbers .ofMount card work);
-      ofPut = λ s work n d. in-rows (putRows s work n d) refl (numbers .ofPut s work n d);
+      ofPut = λ s work n d goal. in-rows (putAtRows s work n d goal) refl (numbers .ofPutAt s work n d goal);
       ofRemove = λ s work n. in-rows (removeRows s work n) refl (numbers .ofRemove s work n);
       ofGet = λ s work n out. in-rows (getRows s work n out) refl (numbers .ofGet s work n out);
       ofList = λ s work lines. in-rows (listRows s work lines) refl (numbers .ofList s work lines);

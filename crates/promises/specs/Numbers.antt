@@ -23,7 +23,7 @@ use Rattle.session.specs.declared.Session.the-variants.{Closed, Open}
 use Rattle.session.specs.Views.{presentTable, cutTable, presentPage, cutPage, presentFiles}
 use Rattle.session.specs.FitMeans.{Fits}
 use Rattle.store.specs.Mount.{mount}
-use Rattle.store.specs.Edit.{put, remove}
+use Rattle.store.specs.Edit.{putAt, put, remove}
 use Rattle.store.specs.Look.{get, list, free}
 use Rattle.store.specs.Sync.{land, sync, unmount}
 
@@ -104,10 +104,16 @@ abbrev pub mountRows : List ℕ → List ℕ → List Row
 mountRows card work =
     row 1 (Misshapen card ⊎ (length work ≢ length card)) ∷ row 2 (¬ Sound card) ∷ row 3 (countOf (sec card) ≡ gN (geoOf (sec card))) ∷ []
 
+-- put's last two rows
+abbrev pub placeRows : Session → List ℕ → List ℕ → List ℕ → List Row
+placeRows s work n d = row 7 (When s (λ o. NoEntry o work n)) ∷ row 8 (When s (λ o. NoRoom o work (sectorsFor (length d)))) ∷ []
+
 abbrev pub putRows : Session → List ℕ → List ℕ → List ℕ → List Row
-putRows s work n d =
-    closed s ∷ unfit s work ∷ worn s ∷ badName n ∷ row 7 (When s (λ o. NoEntry o work n))
-    ∷ row 8 (When s (λ o. NoRoom o work (sectorsFor (length d)))) ∷ []
+putRows s work n d = closed s ∷ unfit s work ∷ worn s ∷ badName n ∷ placeRows s work n d
+
+-- put with a goal: "11 for a goal of S or more, after 5 and before 7"
+abbrev pub putAtRows : Session → List ℕ → List ℕ → List ℕ → ℕ → List Row
+putAtRows s work n d goal = closed s ∷ unfit s work ∷ worn s ∷ badName n ∷ row 11 (When s (λ o. o .geo .s ≤ goal)) ∷ placeRows s work n d
 
 abbrev pub removeRows : Session → List ℕ → List ℕ → List Row
 removeRows s work n =
@@ -153,6 +159,7 @@ pub record Numbers : Type 0 where
   pub ofMake : (g : Geo) (card : List ℕ) → Exactly (make g card .answer .number) (makeRows g card)
   pub ofMount : (card work : List ℕ) → Exactly (mount card work .answer .number) (mountRows card work)
   pub ofPut : (s : Session) (work n d : List ℕ) → Exactly (put s work n d .answer .number) (putRows s work n d)
+  pub ofPutAt : (s : Session) (work n d : List ℕ) (goal : ℕ) → Exactly (putAt s work n d goal .answer .number) (putAtRows s work n d goal)
   pub ofRemove : (s : Session) (work n : List ℕ) → Exactly (remove s work n .answer .number) (removeRows s work n)
   pub ofGet : (s : Session) (work n out : List ℕ) → Exactly (get s work n out .answer .number) (getRows s work n out)
   pub ofList : (s : Session) (work : List ℕ) (lines : List Line) → Exactly (list s work lines .answer .number) (listRows s work lines)

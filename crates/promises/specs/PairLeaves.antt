@@ -61,7 +61,7 @@ pub record PairLeaves (s : Opened) (work after : List ℕ) (q : ℕ) : Type 0 wh
   pub kept : sec after (B (group s after q)) ≡ sec work (B (group s after q))
 
 abbrev pub PutPairs : Type 0
-PutPairs = (s : Opened) (work n d : List ℕ) (j a : ℕ) → putPlan s work n d ≡ doIt j a
+PutPairs = (s : Opened) (work n d : List ℕ) (goal j a : ℕ) → putPlan s work n d goal ≡ doIt j a
     → (q : ℕ) → q < gP (s .geo) → Changes s work j a (sectorsFor (length d)) q → PairLeaves s work (putWork s j a work n d) q
 
 abbrev pub RemovePairs : Type 0
@@ -150,8 +150,8 @@ module _ (s : Opened) (j a k : ℕ) (v : Version) (work n d : List ℕ) (R : Rea
 
 pub put-pairs : PutPairs
 unfolding putWork
-put-pairs s work n d j a h q l c =
-    edit-pairs s j a (sectorsFor (length d)) (Present (putRun a d)) work n d (put-ready s work (sec work) refl n d j a h) q l c
+put-pairs s work n d goal j a h q l c =
+    edit-pairs s j a (sectorsFor (length d)) (Present (putRun a d)) work n d (put-ready s work (sec work) refl n d goal j a h) q l c
 
 pub remove-pairs : RemovePairs
 unfolding removeWork

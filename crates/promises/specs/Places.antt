@@ -1,6 +1,6 @@
 -- Which entry put and remove use, and where put's content goes: "A name present in either view of an entry uses that entry; otherwise the lowest entry absent in
--- both views. Content goes to the lowest run of sectors free in both views before the call." Assumes nothing.
-use mathlib.Core.Path.{_≡_, refl, sym, _∙_}
+-- both views. Content goes to the lowest run of sectors free in both views before the call"; with a goal, "the first fitting run at or after it, else the lowest". Assumes nothing.
+use mathlib.Core.Path.{_≡_, refl, sym}
 use mathlib.Core.Bool.{Bool, true, false, cond}
 use mathlib.Core.List.{List, [], _∷_}
 use mathlib.Core.Logic.{_⊎_, inl, inr, ⊎-elim}
@@ -12,18 +12,19 @@ use Rattle.words.specs.declared.Found.the-variants.{At, Nowhere}
 use Rattle.words.specs.Lists.{firstAt}
 use Rattle.words.specs.FirstLaws.{at-one, not-at, found-at, found-none}
 use Rattle.sectors.specs.Sectors.{sec}
+use Rattle.counts.specs.GeoLaws.{limits}
 use Rattle.entries.specs.declared.Version.the-variants.{Absent}
 use Rattle.entries.specs.Entries.{shown, sectorsFor}
 use Rattle.directory.specs.Directory.{entriesOf, gone, named}
 use Rattle.directory.specs.NameLaws.{gone-true, gone-intro, named-true, named-intro}
 use Rattle.apages.specs.Bits.{bitAt}
-use Rattle.apages.specs.LowestLaws.{run-lowest, run-for-some}
+use Rattle.apages.specs.LowestLaws.{Room, GoalRun, run-for}
 use Rattle.card.specs.Plan.{doIt}
 use Rattle.session.specs.declared.Opened.{Opened}
 use Rattle.session.specs.Views.{presentTable, cutTable, presentPage, cutPage}
-use Rattle.session.specs.FitLaws.{fit-inv}
+use Rattle.session.specs.FitLaws.{Fit, fit-inv}
 use Rattle.store.specs.Edit.{orElse, putPlace, placeIn, runIn, putPlan, removePlan}
-use Rattle.store.specs.RoomLaws.{alike}
+use Rattle.store.specs.RoomLaws.{present-wide, alike, room-in}
 use Rattle.store.specs.Plans.{put-inv, remove-inv}
 use Rattle.promises.specs.Numbers.{Shows}
 use Rattle.promises.specs.RowLaws.{clash}
@@ -51,13 +52,20 @@ pub record PlaceIs (s : Opened) (work n : List ℕ) (j : ℕ) : Type 0 where
   pub vacant : ¬ HasName s work n j → Vacant s work j
   pub lowest : ¬ HasName s work n j → (i : ℕ) → i < j → ¬ Vacant s work i
 
--- k sectors from t on lie in one page, "no run crosses out of one", and are free in both views
+-- "a fitting run": k sectors of the card from t on lie in one page, "no run crosses out of one", and are free in both views
 abbrev pub FreeFrom : Opened → List ℕ → ℕ → ℕ → Type 0
-FreeFrom s work k t = (t % 4096 + k ≤ 4096) × ((n : ℕ) → t ≤ n → n < t + k → (bitAt (presentPage s (sec work)) n ≡ 0) × (bitAt (cutPage s (sec work)) n ≡ 0))
+FreeFrom s work k t =
+    (t + k ≤ s .geo .s) × (t % 4096 + k ≤ 4096) × ((n : ℕ) → t ≤ n → n < t + k → (bitAt (presentPage s (sec work)) n ≡ 0) × (bitAt (cutPage s (sec work)) n ≡ 0))
+
+-- the run that k sectors with a goal go to starts at a: "the first fitting run at or after it, else the lowest"
+pub record GoesTo (s : Opened) (work : List ℕ) (k goal a : ℕ) : Type 0 where
+  pub fitting : FreeFrom s work k a
+  pub first : (t : ℕ) → goal ≤ t → FreeFrom s work k t → (goal ≤ a) × (a ≤ t)
+  pub lowest : a < goal → (t : ℕ) → FreeFrom s work k t → a ≤ t
 
 abbrev pub PutPlaces : Type 0
-PutPlaces = (s : Opened) (work n d : List ℕ) (j a : ℕ) → putPlan s work n d ≡ doIt j a
-    → PlaceIs s work n j × (1 ≤ sectorsFor (length d) → (t : ℕ) → t < a → ¬ FreeFrom s work (sectorsFor (length d)) t)
+PutPlaces = (s : Opened) (work n d : List ℕ) (goal j a : ℕ) → putPlan s work n d goal ≡ doIt j a
+    → PlaceIs s work n j × (1 ≤ sectorsFor (length d) → GoesTo s work (sectorsFor (length d)) goal a)
 
 abbrev pub RemovePlaces : Type 0
 RemovePlaces = (s : Opened) (work n : List ℕ) (j a : ℕ) → removePlan s work n ≡ doIt j a
@@ -115,16 +123,23 @@ module _ (s : Opened) (work n : List ℕ) where
             lowest = λ o i q w. clash (gone-intro tp tc (getD es i []) (w .0) (w .1)) (before-first (gone tp tc) [] 0 j es v i (omega arith));
           }
 
-pub put-places : PutPlaces
-put-places s work n d j a h = (
-  place-is s work n j (put-inv s work n d j a h .entry),
-  λ k t l f. low (put-inv s work n d j a h .run) k t l f,
-)
+goes-to : (s : Opened) (work : List ℕ) (k goal a : ℕ) → Fit s work → runIn s work k goal ≡ At a → 0 < k → GoesTo s work k goal a
+goes-to s work k goal a F e some = record {
+  fitting = let (lo, hi, page, free) = room-in s work F k goal a some e in (hi, page, free);
+  first = λ t l f. R .first t l (room t f);
+  lowest = λ l t f. R .lowest l t (room t f);
+}
   where
-    low : runIn s work (sectorsFor (length d)) ≡ At a → 1 ≤ sectorsFor (length d) → (t : ℕ) → t < a → ¬ FreeFrom s work (sectorsFor (length d)) t
-    low e k t l f =
-        run-lowest (sectorsFor (length d)) (presentPage s (sec work)) (cutPage s (sec work)) (omega arith) (alike s work (fit-inv s work (put-inv s work n d j a h .fit))) a
-        (sym (run-for-some (sectorsFor (length d)) _ _ (λ z. omega arith)) ∙ (unfold runIn in e)) t l (f .0) (f .1)
+    R : GoalRun k (presentPage s (sec work)) (cutPage s (sec work)) some (alike s work F) goal a
+    R = run-for k goal a (presentPage s (sec work)) (cutPage s (sec work)) some (alike s work F) (unfold runIn in e)
+
+    room : (t : ℕ) → FreeFrom s work k t → Room k (presentPage s (sec work)) (cutPage s (sec work)) some (alike s work F) t
+    room t f = (omega (arith, f .0, present-wide s work F, limits (s .geo) (F .shape) .covered), f .1, f .2)
+
+pub put-places : PutPlaces
+put-places s work n d goal j a h =
+    let p = put-inv s work n d goal j a h in
+    (place-is s work n j (p .entry), λ some. goes-to s work (sectorsFor (length d)) goal a (fit-inv s work (p .fit)) (p .run) some)
 
 pub remove-places : RemovePlaces
 remove-places s work n j a h =

@@ -13,7 +13,7 @@ use Rattle.card.specs.Reading.{read, readList, readGet}
 use Rattle.session.specs.declared.Session.{Session}
 use Rattle.session.specs.declared.Session.the-variants.{Closed, Open}
 use Rattle.store.specs.Mount.{Ended, mountPlan, mountDone, mount}
-use Rattle.store.specs.Edit.{putPlan, put, removePlan, remove}
+use Rattle.store.specs.Edit.{putPlan, put, removePlan, remove, putAt}
 use Rattle.store.specs.declared.Room.{Room}
 use Rattle.store.specs.Look.{get, list, noFigures, figures, free}
 use Rattle.store.specs.Sync.{land, syncDone, sync, unmountDone, unmount}
@@ -36,7 +36,7 @@ SameBoth r s card work = (r .session ≡ s) × (r .card ≡ card) × (r .work �
 pub record Refusals : Type 0 where
   pub ofMake : (g : Geo) (card : List ℕ) → make g card .answer .number ≢ 0 → Same (make g card) card
   pub ofMount : (card work : List ℕ) → mount card work .answer .number ≢ 0 → SameBoth (mount card work) Closed card work
-  pub ofPut : (s : Session) (work n d : List ℕ) → put s work n d .answer .number ≢ 0 → Same (put s work n d) work
+  pub ofPut : (s : Session) (work n d : List ℕ) (goal : ℕ) → putAt s work n d goal .answer .number ≢ 0 → Same (putAt s work n d goal) work
   pub ofRemove : (s : Session) (work n : List ℕ) → remove s work n .answer .number ≢ 0 → Same (remove s work n) work
   pub ofGet : (s : Session) (work n out : List ℕ) → get s work n out .answer .number ≢ 0 → SameOut (get s work n out) out
   pub ofList : (s : Session) (work : List ℕ) (lines : List Line) → list s work lines .answer .number ≢ 0 → SameLines (list s work lines) lines
@@ -65,10 +65,10 @@ unfolding mount mountDone refused done
 of-mount card work n =
     refused-so (λ (r : Ended). r .answer .number) (λ r. SameBoth r Closed card work) _ _ (λ j a. refl) (λ k. (refl, refl, refl, refl)) (mountPlan card work) n
 
-of-put : (s : Session) (work n d : List ℕ) → put s work n d .answer .number ≢ 0 → Same (put s work n d) work
-unfolding put refused done
-of-put Closed work n d h = (refl, refl)
-of-put (Open s) work n d h = refused-so (λ (r : Changed). r .answer .number) (λ r. Same r work) _ _ (λ j a. refl) (λ k. (refl, refl)) (putPlan s work n d) h
+of-put : (s : Session) (work n d : List ℕ) (goal : ℕ) → putAt s work n d goal .answer .number ≢ 0 → Same (putAt s work n d goal) work
+unfolding putAt refused done
+of-put Closed work n d goal h = (refl, refl)
+of-put (Open s) work n d goal h = refused-so (λ (r : Changed). r .answer .number) (λ r. Same r work) _ _ (λ j a. refl) (λ k. (refl, refl)) (putPlan s work n d goal) h
 
 of-remove : (s : Session) (work n : List ℕ) → remove s work n .answer .number ≢ 0 → Same (remove s work n) work
 unfolding remove refused done

@@ -21,7 +21,7 @@ use Rattle.session.specs.declared.Session.the-variants.{Closed, Open}
 use Rattle.session.specs.FitLaws.{Fit}
 use Rattle.store.specs.Steps.{mountSteps, syncWork, atTop}
 use Rattle.store.specs.Mount.{Ended, openedFrom, mountDone, mount}
-use Rattle.store.specs.Edit.{put, remove}
+use Rattle.store.specs.Edit.{putAt, remove}
 use Rattle.store.specs.Sync.{land, grown, syncDone, sync, unmount}
 use Rattle.store.specs.StepLaws.{mount-bump}
 use Rattle.store.specs.Plans.{both-num, make-num, make-ok, mount-few, mount-good, mount-num, sync-live}
@@ -64,7 +64,7 @@ LandShows = (w : World) (i : ℕ) → (after (landC i) w .session ≡ w .session
 -- "a refusal changes nothing": the world is as it was. (A mount over an open session is a cut first, refused or not.)
 pub record Refused (w : World) : Type 0 where
   pub ofMake : (g : Geo) → make g (w .card) .answer .number ≢ 0 → after (makeC g) w ≡ w
-  pub ofPut : (n d : List ℕ) → put (w .session) (w .work) n d .answer .number ≢ 0 → after (putC n d) w ≡ w
+  pub ofPut : (n d : List ℕ) (goal : ℕ) → putAt (w .session) (w .work) n d goal .answer .number ≢ 0 → after (putC n d goal) w ≡ w
   pub ofRemove : (n : List ℕ) → remove (w .session) (w .work) n .answer .number ≢ 0 → after (removeC n) w ≡ w
   pub ofLand : (i : ℕ) → land (w .session) (w .card) (w .work) i .answer .number ≢ 0 → after (landC i) w ≡ w
   pub ofSync : sync (w .session) (w .card) (w .work) .answer .number ≢ 0 → after syncC w ≡ w
@@ -86,7 +86,7 @@ unfolding after edited stepped
 refused-same w =
     record {
       ofMake = λ g h. by-not _ _ w h;
-      ofPut = λ n d h. by-not _ _ w h;
+      ofPut = λ n d goal h. by-not _ _ w h;
       ofRemove = λ n h. by-not _ _ w h;
       ofLand = λ i h. by-not _ _ w h;
       ofSync = λ h. by-not _ _ w h;

@@ -24,7 +24,7 @@ use Rattle.session.specs.declared.Session.{Session}
 use Rattle.session.specs.declared.Session.the-variants.{Closed, Open}
 use Rattle.session.specs.Fits.{fits}
 use Rattle.session.specs.FitLaws.{Fit, fit-inv}
-use Rattle.store.specs.Edit.{put, remove}
+use Rattle.store.specs.Edit.{putAt, remove}
 use Rattle.store.specs.Sync.{land}
 use Rattle.store.specs.Plans.{put-inv, put-num, remove-inv, remove-num, both-inv, both-num, make-num, make-ok}
 use Rattle.promises.specs.PlainList.{Item, shownBy}
@@ -111,15 +111,15 @@ worn-land g card work p m W i = let e : setSec card i (sec work i) ≡ card = rw
 
 -- ---- the calls
 
-pub step-put : (n d : List ℕ) (s : Session) (card work : List ℕ) (p : Pending) (m : List Item) → InvOf s (mk card work s p m) → Inv (after (putC n d) (mk card work s p m))
-unfolding after edited put refused done byNumber
-step-put n d Closed card work p m h = h
-step-put n d (Open s) card work p m h =
-    by-plan (λ (r : Changed). r .answer .number) Inv (mk card work (Open s) p m) _ _ (λ r. mk card (r .image) (Open s) (allWritten (r .image) p) m) (λ k. refl) (put-num s work n d) h
+pub step-put : (n d : List ℕ) (goal : ℕ) (s : Session) (card work : List ℕ) (p : Pending) (m : List Item) → InvOf s (mk card work s p m) → Inv (after (putC n d goal) (mk card work s p m))
+unfolding after edited putAt refused done byNumber
+step-put n d goal Closed card work p m h = h
+step-put n d goal (Open s) card work p m h =
+    by-plan (λ (r : Changed). r .answer .number) Inv (mk card work (Open s) p m) _ _ (λ r. mk card (r .image) (Open s) (allWritten (r .image) p) m) (λ k. refl) (put-num s work n d goal) h
     (λ j a e.
-    let live = put-inv s work n d j a e .live in
+    let live = put-inv s work n d goal j a e .live in
     let V₀ = to-live s (mk card work (Open s) p m) live h in
-    from-live s _ live (live-edit s card work p m V₀ _ (put-left s (V₀ .img₀) (V₀ .base) work (work-keeps s card work p m V₀) n d j a e)))
+    from-live s _ live (live-edit s card work p m V₀ _ (put-left s (V₀ .img₀) (V₀ .base) work (work-keeps s card work p m V₀) n d goal j a e)))
 
 pub step-remove : (n : List ℕ) (s : Session) (card work : List ℕ) (p : Pending) (m : List Item) → InvOf s (mk card work s p m) → Inv (after (removeC n) (mk card work s p m))
 unfolding after edited remove refused done byNumber

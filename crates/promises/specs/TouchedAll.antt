@@ -12,7 +12,7 @@ use Rattle.session.specs.declared.Session.{Session}
 use Rattle.session.specs.declared.Session.the-variants.{Closed, Open}
 use Rattle.store.specs.Steps.{syncSteps, mountSteps}
 use Rattle.store.specs.Mount.{Ended, mountDone, mount}
-use Rattle.store.specs.Edit.{putRun, putWork, put, removeWork, remove}
+use Rattle.store.specs.Edit.{putRun, putWork, putAt, removeWork, remove}
 use Rattle.store.specs.Sync.{syncDone, sync, unmountDone, unmount}
 use Rattle.store.specs.Plans.{put-inv, put-num, remove-inv, remove-num, both-num, mount-num, sync-live}
 use Rattle.promises.specs.PlainList.{Item, shownBy, shownIn}
@@ -27,16 +27,16 @@ use Rattle.promises.specs.Touched.{OneValue, Touched, one-settled, one-n
 
 -- ---- put and remove
 
-touched-put : (n d : List ℕ) (o : Session) (card work : List ℕ) (p : Pending) (m : List Item) (c : ℕ) → InvOf o (mk card work o p m) → Touched (mk card work o p m) c
-    → Touched (after (putC n d) (mk card work o p m)) (changesBy (putC n d) (mk card work o p m) c)
-unfolding after edited changesBy put refused done byNumber
-touched-put n d Closed card work p m c h T = T
-touched-put n d (Open s) card work p m c h T =
+touched-put : (n d : List ℕ) (goal : ℕ) (o : Session) (card work : List ℕ) (p : Pending) (m : List Item) (c : ℕ) → InvOf o (mk card work o p m) → Touched (mk card work o p m) c
+    → Touched (after (putC n d goal) (mk card work o p m)) (changesBy (putC n d goal) (mk card work o p m) c)
+unfolding after edited changesBy putAt refused done byNumber
+touched-put n d goal Closed card work p m c h T = T
+touched-put n d goal (Open s) card work p m c h T =
     passing (λ (r : Changed). Touched (byNumber (r .answer .number) (mk card (r .image) (Open s) (allWritten (r .image) p) m) (mk card work (Open s) p m)) (byNumber (r .answer .number) (sectorsFor (length d) + 1 + c) c))
-    _ _ (put-num s work n d) (λ k. T)
+    _ _ (put-num s work n d goal) (λ k. T)
     (λ j a e.
-    let V₀ = to-live s (mk card work (Open s) p m) (put-inv s work n d j a e .live) h in
-    unfold putWork in touched-more s j a (sectorsFor (length d)) (Present (putRun a d)) card work n d p m (put-ready s work (sec work) refl n d j a e) V₀ c T)
+    let V₀ = to-live s (mk card work (Open s) p m) (put-inv s work n d goal j a e .live) h in
+    unfold putWork in touched-more s j a (sectorsFor (length d)) (Present (putRun a d)) card work n d p m (put-ready s work (sec work) refl n d goal j a e) V₀ c T)
 
 touched-remove : (n : List ℕ) (o : Session) (card work : List ℕ) (p : Pending) (m : List Item) (c : ℕ) → InvOf o (mk card work o p m) → Touched (mk card work o p m) c
     → Touched (after (removeC n) (mk card work o p m)) (changesBy (removeC n) (mk card work o p m) c)
@@ -107,7 +107,7 @@ touched-step w c h T (makeC g) = unfold after changesBy in touched-make _ _ _ w 
 touched-step w c h T mountC = unfold changesBy in touched-open (w .session) (w .card) (w .work) (w .pending) (w .last)
 touched-step w c h T syncC = touched-sync (w .session) (w .card) (w .work) (w .pending) (w .last) c h T
 touched-step w c h T unmountC = touched-unmount (w .session) (w .card) (w .work) (w .pending) (w .last) c T
-touched-step w c h T (putC n d) = touched-put n d (w .session) (w .card) (w .work) (w .pending) (w .last) c h T
+touched-step w c h T (putC n d goal) = touched-put n d goal (w .session) (w .card) (w .work) (w .pending) (w .last) c h T
 touched-step w c h T (removeC n) = touched-remove n (w .session) (w .card) (w .work) (w .pending) (w .last) c h T
 touched-step w c h T (landC i) = unfold after changesBy in touched-like _ _ w c T refl refl
 touched-step w c h T (getC n out) = unfold after changesBy in T

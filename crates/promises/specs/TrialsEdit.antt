@@ -22,7 +22,8 @@ use Rattle.session.specs.declared.Session.the-variants.{Closed, Open}
 use Rattle.session.specs.Views.{presentTable, cutTable, presentPage}
 use Rattle.session.specs.Fits.{fits}
 use Rattle.store.specs.Steps.{setWord}
-use Rattle.store.specs.Edit.{orElse, placeIn, runIn, putPlan, putWork, put, removePlan, removeWork, remove}
+use Rattle.store.specs.Edit.{orElse, placeIn, runIn, putPlan, putWork, putAt, put, removePlan, removeWork, remove}
+use Rattle.store.specs.Plans.{put-plain}
 use Rattle.promises.specs.PlainList.{Item, shownBy}
 use Rattle.promises.specs.History.{Pending, allWritten, Left, World, byNumber, edited, after, putC, removeC, Reach, call}
 use Rattle.promises.specs.Inv.{mk}
@@ -40,8 +41,8 @@ PutsRead p = (w : World) → Reach w → (n d : List ℕ) → CutsRead (edited w
 
 -- of the put of this store it is proved
 pub of-this-put : PutsRead put
-unfolding after
-of-this-put w r n d = demand-three (after (putC n d) w) (call r (putC n d)) .0
+unfolding after put
+of-this-put w r n d = demand-three (after (putC n d 0) w) (call r (putC n d 0)) .0
 
 -- after a put that gives 0 a cut may leave any card of which each sector is the new working image's or the card's
 pub some-landed : (p : Pending) (card image k : List ℕ) → Left p (length card) card → length k ≡ length card
@@ -83,15 +84,19 @@ putBy place run Closed work n d = record { answer = refused 4; image = work }
 putBy place run (Open s) work n d =
     ended (planBy place run s work n d) (λ k. record { answer = refused k; image = work }) (λ j i. record { answer = done 0; image = putWork s j i work n d })
 
--- this store's put is one of them
-pub as-this-put : (s : Session) (work n d : List ℕ) → putBy placeIn runIn s work n d ≡ put s work n d
-unfolding putBy planBy put putPlan
+-- this store's run, without a goal
+unfoldable pub lowestIn : Opened → List ℕ → ℕ → Found
+lowestIn s work k = runIn s work k 0
+
+-- its put is one of them
+pub as-this-put : (s : Session) (work n d : List ℕ) → putBy placeIn lowestIn s work n d ≡ put s work n d
+unfolding putBy planBy put putAt lowestIn
 as-this-put Closed work n d = refl
-as-this-put (Open s) work n d = refl
+as-this-put (Open s) work n d = rw (put-plain s work n d)
 
 -- "Reusing a sector freed since the last sync while the cut view still holds it": the run is free in the present view
 unfoldable pub runNow : Opened → List ℕ → ℕ → Found
-runNow s work k = runFor k (presentPage s (sec work)) (presentPage s (sec work))
+runNow s work k = runFor k 0 (presentPage s (sec work)) (presentPage s (sec work))
 
 -- "Giving an entry a new name while its cut view is still present": the entry is absent in the present view
 unfoldable pub placeNow : Opened → List ℕ → List ℕ → Found
@@ -103,7 +108,7 @@ placeNow s work n =
 unfoldable pub earlyPut : Session → List ℕ → List ℕ → List ℕ → Changed
 earlyPut Closed work n d = record { answer = refused 4; image = work }
 earlyPut (Open s) work n d =
-    ended (putPlan s work n d) (λ k. record { answer = refused k; image = work })
+    ended (putPlan s work n d 0) (λ k. record { answer = refused k; image = work })
     (λ j i. record { answer = done 0; image = setWord (s .c .0) (s .t .0) (putWork s j i work n d) })
 
 -- ---- the history: fresh card, mount, put `a`, sync (world `synced`), remove `a`

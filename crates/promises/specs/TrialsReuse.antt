@@ -17,13 +17,13 @@ use Rattle.session.specs.declared.Opened.{Opened}
 use Rattle.session.specs.declared.Session.{Session}
 use Rattle.session.specs.declared.Session.the-variants.{Open}
 use Rattle.session.specs.Fits.{fits}
-use Rattle.store.specs.Edit.{placeIn, runIn, putWork, removeWork}
+use Rattle.store.specs.Edit.{placeIn, putWork, removeWork}
 use Rattle.promises.specs.PlainList.{Item, shownBy, lookup}
 use Rattle.promises.specs.History.{World, Reach}
 use Rattle.promises.specs.TrialsCard.{a, b, seven, stretch, cardS, computes}
 use Rattle.promises.specs.TrialsRun.{at-synced, good}
 use Rattle.promises.specs.TrialsSync.{some-none}
-use Rattle.promises.specs.TrialsEdit.{PutsRead, one-shows, planBy, putBy, runNow, placeNow, workR, removed, reach-removed, removed-fits}
+use Rattle.promises.specs.TrialsEdit.{PutsRead, one-shows, planBy, putBy, lowestIn, runNow, placeNow, workR, removed, reach-removed, removed-fits}
 
 -- a put that finds an entry and a run goes through
 by-plan : (place : Opened → List ℕ → List ℕ → Found) (run : Opened → List ℕ → ℕ → Found) (s : Opened) (work n d : List ℕ) (j i : ℕ) → fits s work ≡ true
@@ -54,8 +54,8 @@ card-sized = refl
 
 -- ---- a sector freed since the last sync is used
 
-reuse-finds : (placeIn (stretch 2) workR b ≡ At 1) × (runNow (stretch 2) workR 1 ≡ At 6) × (runIn (stretch 2) workR 1 ≡ At 7)
-unfolding computes workR removeWork runNow
+reuse-finds : (placeIn (stretch 2) workR b ≡ At 1) × (runNow (stretch 2) workR 1 ≡ At 6) × (lowestIn (stretch 2) workR 1 ≡ At 7)
+unfolding computes workR removeWork runNow lowestIn
 reuse-finds = (refl, refl, refl)
 
 unfoldable pub workReused : List ℕ
@@ -94,10 +94,10 @@ unfolding computes workR removeWork workOver shownBy
 over-shows = (refl, refl, refl)
 
 -- it is refused
-pub new-name-over-cut : ¬ PutsRead (putBy placeNow runIn)
+pub new-name-over-cut : ¬ PutsRead (putBy placeNow lowestIn)
 unfolding removed
 new-name-over-cut h =
     refuse removed reach-removed _ h b seven workOver 5
-    (unfold workOver in by-done placeNow runIn (stretch 2) workR b seven 0 7
-    (by-plan placeNow runIn (stretch 2) workR b seven 0 7 removed-fits refl (good .1) (over-finds .0) (rw (good .2) (reuse-finds .2))))
+    (unfold workOver in by-done placeNow lowestIn (stretch 2) workR b seven 0 7
+    (by-plan placeNow lowestIn (stretch 2) workR b seven 0 7 removed-fits refl (good .1) (over-finds .0) (rw (good .2) (reuse-finds .2))))
     card-sized (over-shows .0) (omega arith) (λ e. some-none _ _ a seven at-synced (over-shows .1) (sym e))

@@ -18,7 +18,8 @@ use Rattle.card.specs.FreshSectors.{fresh-length}
 use Rattle.card.specs.MeansParts.{limits-mean}
 use Rattle.store.specs.Steps.{mountSteps, syncSteps, atTop, syncWork}
 use Rattle.store.specs.Mount.{mountDone, mount}
-use Rattle.store.specs.Edit.{placeIn, runIn, putPlan, putWork, put}
+use Rattle.store.specs.Edit.{placeIn, runIn, putPlan, putWork, putAt, put}
+use Rattle.store.specs.Plans.{put-plain}
 use Rattle.store.specs.Sync.{bothPlan, grown, syncDone, sync}
 use Rattle.session.specs.declared.Opened.{Opened}
 use Rattle.session.specs.declared.Session.{Session}
@@ -40,9 +41,9 @@ isFirst (Open s) = eqb (s .t .0) 1
 
 -- put goes through where it finds an entry and a run
 put-plan : (s : Opened) (work n d : List ℕ) (j i : ℕ) → fits s work ≡ true → s .worn ≡ false → goodName n ≡ true
-    → placeIn s work n ≡ At j → runIn s work (sectorsFor (length d)) ≡ At i → putPlan s work n d ≡ doIt j i
-unfolding putPlan guard need
-put-plan s work n d j i f w g p r = rw (f, g, p, r, w)
+    → placeIn s work n ≡ At j → runIn s work (sectorsFor (length d)) 0 ≡ At i → putPlan s work n d 0 ≡ doIt j i
+unfolding guard need
+put-plan s work n d j i f w g p r = put-plain s work n d ∙ rw (f, g, p, r, w)
 
 -- sync goes through
 pub sync-plan : (s : Opened) (card work : List ℕ) → length card ≡ 512 * s .geo .s → fits s work ≡ true → s .worn ≡ false
@@ -51,9 +52,9 @@ unfolding bothPlan guard
 sync-plan s card work l f w = rw (eq-eqb (length card) (512 * s .geo .s) l, f, w)
 
 -- the world after such a put
-put-done : (s : Opened) (card work : List ℕ) (p : Pending) (m : List Item) (n d : List ℕ) (j i : ℕ) → putPlan s work n d ≡ doIt j i
-    → after (putC n d) (mk card work (Open s) p m) ≡ mk card (putWork s j i work n d) (Open s) (allWritten (putWork s j i work n d) p) m
-unfolding after edited put ended done byNumber
+put-done : (s : Opened) (card work : List ℕ) (p : Pending) (m : List Item) (n d : List ℕ) (j i : ℕ) → putPlan s work n d 0 ≡ doIt j i
+    → after (putC n d 0) (mk card work (Open s) p m) ≡ mk card (putWork s j i work n d) (Open s) (allWritten (putWork s j i work n d) p) m
+unfolding after edited putAt ended done byNumber
 put-done s card work p m n d j i e = rw e
 
 -- and after such a sync
@@ -93,14 +94,14 @@ pub good : (goodName a ≡ true) × (goodName b ≡ true) × (sectorsFor (length
 unfolding goodName sectorsFor every
 good = (refl, refl, refl)
 
-a-goes : putPlan (stretch 1) start a seven ≡ doIt 0 6
+a-goes : putPlan (stretch 1) start a seven 0 ≡ doIt 0 6
 a-goes =
     let f : fits (stretch 1) start ≡ true = unfold mounted in always-fits reach-mounted in
     put-plan (stretch 1) start a seven 0 6 f refl (good .0) (finds .0) (rw (good .2) (finds .1))
 
 pub reach-putA : Reach putA
 unfolding mounted putA workA
-reach-putA = subst Reach (put-done (stretch 1) start start _ _ a seven 0 6 a-goes) (call reach-mounted (putC a seven))
+reach-putA = subst Reach (put-done (stretch 1) start start _ _ a seven 0 6 a-goes) (call reach-mounted (putC a seven 0))
 
 start-sized : length start ≡ 512 * 10
 unfolding start
@@ -115,14 +116,14 @@ pub reach-synced : Reach synced
 unfolding mounted putA synced cardS workS grown atTop
 reach-synced = subst Reach (sync-done (stretch 1) start workA _ _ sync-goes) (call reach-putA syncC)
 
-pub b-goes : putPlan (stretch 2) workS b seven ≡ doIt 1 7
+pub b-goes : putPlan (stretch 2) workS b seven 0 ≡ doIt 1 7
 b-goes =
     let f : fits (stretch 2) workS ≡ true = unfold synced in always-fits reach-synced in
     put-plan (stretch 2) workS b seven 1 7 f refl (good .1) (finds .2) (rw (good .2) (finds .3))
 
 pub reach-putB : Reach putB
 unfolding synced putB workB
-reach-putB = subst Reach (put-done (stretch 2) cardS workS _ _ b seven 1 7 b-goes) (call reach-synced (putC b seven))
+reach-putB = subst Reach (put-done (stretch 2) cardS workS _ _ b seven 1 7 b-goes) (call reach-synced (putC b seven 0))
 
 fits-B : fits (stretch 2) workB ≡ true
 unfolding putB
@@ -139,7 +140,7 @@ again-goes = sync-plan (stretch 2) cardS workB (sizes .0) fits-B refl
 
 -- put of `a` gives 0, and the session does not show `a` before it
 pub at-mounted : (put (mounted .session) (mounted .work) a seven .answer .number ≡ 0) × (lookup a (shownIn (mounted .session) (mounted .work)) ≡ none)
-unfolding mounted put ended done
+unfolding mounted put putAt ended done
 at-mounted = (rw a-goes refl, looks .0)
 
 -- the first sync gives 0

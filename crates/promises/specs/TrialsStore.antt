@@ -48,7 +48,8 @@ PutAnswersOf p = (s : Session) (work n d : List ℕ) → p s work n d .answer .n
 
 -- of the put of this store it is proved
 pub of-this-put : PutAnswersOf put
-of-this-put = put-answers
+unfolding put
+of-this-put s work n d = put-answers s work n d 0
 
 -- a put that answers as this one does, and stores nothing
 unfoldable pub idlePut : Session → List ℕ → List ℕ → List ℕ → Changed

@@ -71,8 +71,8 @@ StoreReads lives f p =
 
 -- of this store it is proved
 pub of-this-store : StoreReads alive sync put
-unfolding after
-of-this-store w r n d card x = by-alive card ∙ demand-three (after (putC n d) (after syncC w)) (call (call r syncC) (putC n d)) .0 card x .shows
+unfolding after put
+of-this-store w r n d card x = by-alive card ∙ demand-three (after (putC n d 0) (after syncC w)) (call (call r syncC) (putC n d 0)) .0 card x .shows
 
 -- ---- the build
 
@@ -89,7 +89,7 @@ onSync (Open s) card work =
 
 -- and its put does not ask whether t has passed the top
 unfoldable pub onPlan : Opened → List ℕ → List ℕ → List ℕ → Plan
-onPlan s work n d = guard 5 (goodName n) (need 7 (placeIn s work n) (λ j. need 8 (runIn s work (sectorsFor (length d))) (λ i. doIt j i)))
+onPlan s work n d = guard 5 (goodName n) (need 7 (placeIn s work n) (λ j. need 8 (runIn s work (sectorsFor (length d)) 0) (λ i. doIt j i)))
 
 unfoldable pub onPut : Session → List ℕ → List ℕ → List ℕ → Changed
 onPut Closed work n d = record { answer = refused 4; image = work }
@@ -104,7 +104,7 @@ workPast = putWork (stretch 2147483648) 0 0 (img 2147483647) b []
 unfoldable pub pastCard : List ℕ
 pastCard = setSec (img 2147483647) 5 (sec workPast 5)
 
-past-finds : (placeIn (stretch 2147483648) (img 2147483647) b ≡ At 0) × (runIn (stretch 2147483648) (img 2147483647) (sectorsFor 0) ≡ At 0)
+past-finds : (placeIn (stretch 2147483648) (img 2147483647) b ≡ At 0) × (runIn (stretch 2147483648) (img 2147483647) (sectorsFor 0) 0 ≡ At 0)
 unfolding computes img
 past-finds = (refl, refl)
 

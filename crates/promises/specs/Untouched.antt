@@ -23,7 +23,7 @@ use Rattle.session.specs.declared.Opened.{Opened}
 use Rattle.session.specs.declared.Session.the-variants.{Open}
 use Rattle.session.specs.Views.{ownStamp, presentTable, cutTable, presentPage, cutPage}
 use Rattle.session.specs.FitLaws.{fit-inv, present-live}
-use Rattle.store.specs.Edit.{putContent, putPlan, putRun, putWork, put, removePlan, removeWork, remove, editWork}
+use Rattle.store.specs.Edit.{putContent, putPlan, putRun, putWork, putAt, removePlan, removeWork, remove, editWork}
 use Rattle.store.specs.EditLaws.{CanEdit}
 use Rattle.store.specs.RoomLaws.{can-put, can-remove}
 use Rattle.store.specs.Plans.{put-inv, put-num, remove-inv, remove-num}
@@ -112,14 +112,14 @@ module _ (s : Opened) (j a k : ℕ) (v : Version) (work n d : List ℕ) (R : Rea
 
 -- ---- put and remove
 
-pub put-untouched : (s : Opened) (work n d : List ℕ) (j a : ℕ) → putPlan s work n d ≡ doIt j a
+pub put-untouched : (s : Opened) (work n d : List ℕ) (goal j a : ℕ) → putPlan s work n d goal ≡ doIt j a
     → Untouched s j a (sectorsFor (length d)) (Present (putRun a d)) work n d (putWork s j a work n d)
 unfolding putWork
-put-untouched s work n d j a h =
-    let p = put-inv s work n d j a h in
-    edit-untouched s j a (sectorsFor (length d)) (Present (putRun a d)) work n d (put-ready s work (sec work) refl n d j a h)
-    (can-put s work n d j a (p .fit) (p .name) (p .entry) (p .run) refl)
-    (run-free s work (fit-inv s work (p .fit)) (p .live) (sectorsFor (length d)) a (p .run))
+put-untouched s work n d goal j a h =
+    let p = put-inv s work n d goal j a h in
+    edit-untouched s j a (sectorsFor (length d)) (Present (putRun a d)) work n d (put-ready s work (sec work) refl n d goal j a h)
+    (can-put s work n d goal j a (p .fit) (p .name) (p .entry) (p .run) refl)
+    (run-free s work (fit-inv s work (p .fit)) (p .live) (sectorsFor (length d)) goal a (p .run))
 
 pub remove-untouched : (s : Opened) (work n : List ℕ) (j a : ℕ) → removePlan s work n ≡ doIt j a → Untouched s j 0 0 Absent work n [] (removeWork s j work n)
 unfolding removeWork
@@ -130,21 +130,21 @@ remove-untouched s work n j a h =
 
 -- ---- as the calls answer: 0 goes with an entry and a run, and the call leaves the image so changed
 
-put-leaves : (s : Opened) (work n d : List ℕ) (j a : ℕ) → putPlan s work n d ≡ doIt j a
-    → Untouched s j a (sectorsFor (length d)) (Present (putRun a d)) work n d (put (Open s) work n d .image)
-unfolding put
-put-leaves s work n d j a h = rw h (unfold ended in put-untouched s work n d j a h)
+put-leaves : (s : Opened) (work n d : List ℕ) (goal j a : ℕ) → putPlan s work n d goal ≡ doIt j a
+    → Untouched s j a (sectorsFor (length d)) (Present (putRun a d)) work n d (putAt (Open s) work n d goal .image)
+unfolding putAt
+put-leaves s work n d goal j a h = rw h (unfold ended in put-untouched s work n d goal j a h)
 
 remove-leaves : (s : Opened) (work n : List ℕ) (j a : ℕ) → removePlan s work n ≡ doIt j a → Untouched s j 0 0 Absent work n [] (remove (Open s) work n .image)
 unfolding remove
 remove-leaves s work n j a h = rw h (unfold ended in remove-untouched s work n j a h)
 
-pub put-changes : (s : Opened) (work n d : List ℕ) → put (Open s) work n d .answer .number ≡ 0
-    → (j : ℕ) × (a : ℕ) × (putPlan s work n d ≡ doIt j a) × Untouched s j a (sectorsFor (length d)) (Present (putRun a d)) work n d (put (Open s) work n d .image)
-unfolding put
-put-changes s work n d h =
-    let (j, a, e) = done-plan work (λ i b. record { answer = done 0; image = putWork s i b work n d }) (put-num s work n d) h in
-    (j, a, e, put-leaves s work n d j a e)
+pub put-changes : (s : Opened) (work n d : List ℕ) (goal : ℕ) → putAt (Open s) work n d goal .answer .number ≡ 0
+    → (j : ℕ) × (a : ℕ) × (putPlan s work n d goal ≡ doIt j a) × Untouched s j a (sectorsFor (length d)) (Present (putRun a d)) work n d (putAt (Open s) work n d goal .image)
+unfolding putAt
+put-changes s work n d goal h =
+    let (j, a, e) = done-plan work (λ i b. record { answer = done 0; image = putWork s i b work n d }) (put-num s work n d goal) h in
+    (j, a, e, put-leaves s work n d goal j a e)
 
 pub remove-changes : (s : Opened) (work n : List ℕ) → remove (Open s) work n .answer .number ≡ 0
     → (j : ℕ) × (a : ℕ) × (removePlan s work n ≡ doIt j a) × Untouched s j 0 0 Absent work n [] (remove (Open s) work n .image)

@@ -2,8 +2,8 @@
 use mathlib.Core.Path.{_≡_, refl, sym, ap, _∙_}
 use mathlib.Core.Bool.{Bool, true, false, not}
 use mathlib.Core.List.{List}
-use Prim.Native.Nat.{ℕ}
-use borrow.Author.Tests.{not-true, not-false}
+use Prim.Native.Nat.{ℕ, _≤_, _<_}
+use borrow.Author.Tests.{not-true, not-false, lt-ltb, le-ltb}
 use lib.ListN.{length}
 use Rattle.words.specs.declared.Found.{Found}
 use Rattle.words.specs.declared.Found.the-variants.{At, Nowhere}
@@ -21,7 +21,7 @@ use Rattle.session.specs.declared.Session.{Session}
 use Rattle.session.specs.declared.Session.the-variants.{Closed, Open}
 use Rattle.session.specs.Views.{presentView, presentTable}
 use Rattle.session.specs.Fits.{fits}
-use Rattle.store.specs.Edit.{placeIn, runIn, putPlan, putWork, put, removePlan, removeWork, remove}
+use Rattle.store.specs.Edit.{placeIn, runIn, putPlan, putWork, putAt, removePlan, removeWork, remove}
 
 -- a test that code made, as the definition has it
 pub failed : {t b : Bool} → b ≡ t → not b ≡ true → t ≡ false
@@ -52,55 +52,64 @@ module _ (s : Opened) (work n : List ℕ) (p : Plan) where
   edit-ok : fits s work ≡ true → s .worn ≡ false → goodName n ≡ true → tested ≡ p
   edit-ok z w g = guard-yes 2 _ z ∙ guard-yes 9 _ (ap not w) ∙ guard-yes 5 _ g
 
--- ---- put
+-- ---- put with a goal
 
-pub put-closed : (work n d : List ℕ) {o : Session} {r : Answer} → o ≡ Closed → r ≡ refused 4 → Leaves (put o work n d) r work
-unfolding put
-put-closed work n d e f = leaves _ (ap (λ (q : Session). put q work n d) e) f refl
+pub put-closed : (work n d : List ℕ) (goal : ℕ) {o : Session} {r : Answer} → o ≡ Closed → r ≡ refused 4 → Leaves (putAt o work n d goal) r work
+unfolding putAt
+put-closed work n d goal e f = leaves _ (ap (λ (q : Session). putAt q work n d goal) e) f refl
 
-module _ (s : Opened) (work n d : List ℕ) {o : Session} (eo : o ≡ Open s) where
-  put-by : {p : Plan} → putPlan s work n d ≡ p
-      → put o work n d ≡ ended p (λ k. record { answer = refused k; image = work }) (λ j a. record { answer = done 0; image = putWork s j a work n d })
-  unfolding put
+module _ (s : Opened) (work n d : List ℕ) (goal : ℕ) {o : Session} (eo : o ≡ Open s) where
+  put-by : {p : Plan} → putPlan s work n d goal ≡ p
+      → putAt o work n d goal ≡ ended p (λ k. record { answer = refused k; image = work }) (λ j a. record { answer = done 0; image = putWork s j a work n d })
+  unfolding putAt
   put-by ep =
-      ap (λ (q : Session). put q work n d) eo
+      ap (λ (q : Session). putAt q work n d goal) eo
       ∙ ap (λ (p : Plan). ended {A = Changed} p (λ k. record { answer = refused k; image = work }) (λ j a. record { answer = done 0; image = putWork s j a work n d })) ep
 
-  put-stop : {k : ℕ} {r : Answer} → putPlan s work n d ≡ refuse k → r ≡ refused k → Leaves (put o work n d) r work
+  put-stop : {k : ℕ} {r : Answer} → putPlan s work n d goal ≡ refuse k → r ≡ refused k → Leaves (putAt o work n d goal) r work
   unfolding ended
   put-stop ep f = leaves _ (put-by ep) f refl
 
   abbrev placed : ℕ → Plan
-  placed j = need 8 (runIn s work (sectorsFor (length d))) (λ a. doIt j a)
+  placed j = need 8 (runIn s work (sectorsFor (length d)) goal) (λ a. doIt j a)
 
-  put-ok : fits s work ≡ true → s .worn ≡ false → goodName n ≡ true → putPlan s work n d ≡ need 7 (placeIn s work n) placed
+  put-ok : fits s work ≡ true → s .worn ≡ false → goodName n ≡ true → goal < s .geo .s → putPlan s work n d goal ≡ need 7 (placeIn s work n) placed
   unfolding putPlan
-  put-ok z w g = edit-ok s work n _ z w g
+  put-ok z w g b = edit-ok s work n _ z w g ∙ guard-yes 11 _ (lt-ltb _ _ b)
 
-  pub put-2 : {r : Answer} → fits s work ≡ false → r ≡ refused 2 → Leaves (put o work n d) r work
+  pub put-2 : {r : Answer} → fits s work ≡ false → r ≡ refused 2 → Leaves (putAt o work n d goal) r work
   unfolding putPlan
   put-2 z = put-stop (guard-no 2 _ z)
 
-  pub put-9 : {r : Answer} → fits s work ≡ true → s .worn ≡ true → r ≡ refused 9 → Leaves (put o work n d) r work
+  pub put-9 : {r : Answer} → fits s work ≡ true → s .worn ≡ true → r ≡ refused 9 → Leaves (putAt o work n d goal) r work
   unfolding putPlan
   put-9 z w = put-stop (edit-9 s work n _ z w)
 
-  pub put-5 : {r : Answer} → fits s work ≡ true → s .worn ≡ false → goodName n ≡ false → r ≡ refused 5 → Leaves (put o work n d) r work
+  pub put-5 : {r : Answer} → fits s work ≡ true → s .worn ≡ false → goodName n ≡ false → r ≡ refused 5 → Leaves (putAt o work n d goal) r work
   unfolding putPlan
   put-5 z w g = put-stop (edit-5 s work n _ z w g)
 
-  pub put-7 : {r : Answer} → fits s work ≡ true → s .worn ≡ false → goodName n ≡ true → placeIn s work n ≡ Nowhere → r ≡ refused 7
-      → Leaves (put o work n d) r work
-  put-7 z w g p = put-stop (put-ok z w g ∙ need-no 7 placed p)
+  pub put-11 : {r : Answer} → fits s work ≡ true → s .worn ≡ false → goodName n ≡ true → s .geo .s ≤ goal → r ≡ refused 11
+      → Leaves (putAt o work n d goal) r work
+  unfolding putPlan
+  put-11 z w g b = put-stop (edit-ok s work n _ z w g ∙ guard-no 11 _ (le-ltb _ _ b))
 
-  pub put-8 : {r : Answer} {j : ℕ} → fits s work ≡ true → s .worn ≡ false → goodName n ≡ true → placeIn s work n ≡ At j
-      → runIn s work (sectorsFor (length d)) ≡ Nowhere → r ≡ refused 8 → Leaves (put o work n d) r work
-  put-8 {r} {j} z w g p q = put-stop (put-ok z w g ∙ need-yes 7 placed p ∙ need-no 8 (λ a. doIt j a) q)
+  pub put-7 : {r : Answer} → fits s work ≡ true → s .worn ≡ false → goodName n ≡ true → goal < s .geo .s → placeIn s work n ≡ Nowhere → r ≡ refused 7
+      → Leaves (putAt o work n d goal) r work
+  put-7 z w g b p = put-stop (put-ok z w g b ∙ need-no 7 placed p)
 
-  pub put-done : {r : Answer} {j a : ℕ} {x : List ℕ} → fits s work ≡ true → s .worn ≡ false → goodName n ≡ true → placeIn s work n ≡ At j
-      → runIn s work (sectorsFor (length d)) ≡ At a → r ≡ done 0 → x ≡ putWork s j a work n d → Leaves (put o work n d) r x
+  pub put-8 : {r : Answer} {j : ℕ} → fits s work ≡ true → s .worn ≡ false → goodName n ≡ true → goal < s .geo .s → placeIn s work n ≡ At j
+      → runIn s work (sectorsFor (length d)) goal ≡ Nowhere → r ≡ refused 8 → Leaves (putAt o work n d goal) r work
+  put-8 {r} {j} z w g b p q = put-stop (put-ok z w g b ∙ need-yes 7 placed p ∙ need-no 8 (λ a. doIt j a) q)
+
+  pub put-done : {r : Answer} {j a : ℕ} {x : List ℕ} → fits s work ≡ true → s .worn ≡ false → goodName n ≡ true → goal < s .geo .s → placeIn s work n ≡ At j
+      → runIn s work (sectorsFor (length d)) goal ≡ At a → r ≡ done 0 → x ≡ putWork s j a work n d → Leaves (putAt o work n d goal) r x
   unfolding ended
-  put-done {r} {j} z w g p q f h = leaves _ (put-by (put-ok z w g ∙ need-yes 7 placed p ∙ need-yes 8 (λ a. doIt j a) q)) f h
+  put-done {r} {j} z w g b p q f h = leaves _ (put-by (put-ok z w g b ∙ need-yes 7 placed p ∙ need-yes 8 (λ a. doIt j a) q)) f h
+
+-- the run that code looked for, for as many sectors as the content takes
+pub run-so : (s : Opened) (work : List ℕ) (goal : ℕ) {k m : ℕ} {r o : Found} → k ≡ m → r ≡ runIn s work k goal → r ≡ o → runIn s work m goal ≡ o
+run-so s work goal e er eo = rw (sym e) (sym er ∙ eo)
 
 -- ---- remove
 

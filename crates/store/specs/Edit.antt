@@ -1,8 +1,9 @@
--- put: "4, 2, 9, 5, 7, 8", and remove: "4, 2, 9, 5, 6". Assumes nothing.
+-- put with a goal: "4, 2, 9, 5, 11, 7, 8", put without one, and remove: "4, 2, 9, 5, 6". Assumes nothing.
 use mathlib.Core.Bool.{not}
 use mathlib.Core.List.{List, []}
 use Prim.Native.Nat.{ℕ, zero, suc, _*_}
 use lib.ListN.{length, getD}
+use lib.Dec.{ltb}
 use Rattle.words.specs.declared.Found.{Found}
 use Rattle.words.specs.Lists.{firstAt, splice, pad}
 unfoldable pub use Rattle.words.specs.Lists.{orElse}
@@ -30,14 +31,14 @@ putPlace tp tc n ps = orElse (firstAt (named tp tc n) 0 ps) (firstAt (gone tp tc
 unfoldable pub placeIn : Opened → List ℕ → List ℕ → Found
 placeIn s work n = putPlace (presentTable s (sec work)) (cutTable s (sec work)) n (entriesOf (s .geo) (sec work))
 
-unfoldable pub runIn : Opened → List ℕ → ℕ → Found
-runIn s work k = runFor k (presentPage s (sec work)) (cutPage s (sec work))
+unfoldable pub runIn : Opened → List ℕ → ℕ → ℕ → Found
+runIn s work k goal = runFor k goal (presentPage s (sec work)) (cutPage s (sec work))
 
--- "put 4, 2, 9, 5, 7, 8"
-unfoldable pub putPlan : Opened → List ℕ → List ℕ → List ℕ → Plan
-putPlan s work n d =
-    guard 2 (fits s work) (guard 9 (not (s .worn)) (guard 5 (goodName n)
-    (need 7 (placeIn s work n) (λ j. need 8 (runIn s work (sectorsFor (length d))) (λ a. doIt j a)))))
+-- put with a goal: "4, 2, 9, 5", "11 for a goal of S or more, after 5 and before 7", "7, 8"
+unfoldable pub putPlan : Opened → List ℕ → List ℕ → List ℕ → ℕ → Plan
+putPlan s work n d goal =
+    guard 2 (fits s work) (guard 9 (not (s .worn)) (guard 5 (goodName n) (guard 11 (ltb goal (s .geo .s))
+    (need 7 (placeIn s work n) (λ j. need 8 (runIn s work (sectorsFor (length d)) goal) (λ a. doIt j a))))))
 
 -- "Content goes to the lowest run ..; The last sector is filled with zeros."
 unfoldable pub putContent : ℕ → ℕ → List ℕ → List ℕ → List ℕ
@@ -59,10 +60,15 @@ putRun a d = record { start = record { 0 = a }; sectors = sectorsFor (length d);
 unfoldable pub putWork : Opened → ℕ → ℕ → List ℕ → List ℕ → List ℕ → List ℕ
 putWork s j a work n d = editWork s j a (sectorsFor (length d)) (Present (putRun a d)) work n d
 
+-- "Put takes a goal sector"
+unfoldable pub putAt : Session → List ℕ → List ℕ → List ℕ → ℕ → Changed
+putAt Closed work n d goal = record { answer = refused 4; image = work }
+putAt (Open s) work n d goal =
+    ended (putPlan s work n d goal) (λ k. record { answer = refused k; image = work }) (λ j a. record { answer = done 0; image = putWork s j a work n d })
+
+-- "Goal 0 is today's rule, and calls without a goal keep it"
 unfoldable pub put : Session → List ℕ → List ℕ → List ℕ → Changed
-put Closed work n d = record { answer = refused 4; image = work }
-put (Open s) work n d =
-    ended (putPlan s work n d) (λ k. record { answer = refused k; image = work }) (λ j a. record { answer = done 0; image = putWork s j a work n d })
+put s work n d = putAt s work n d 0
 
 -- "remove 4, 2, 9, 5, 6"
 unfoldable pub removePlan : Opened → List ℕ → List ℕ → Plan

@@ -1,20 +1,23 @@
 -- The calls' plans: what one that goes through says of each test, and that a refusal's number is not 0. Assumes nothing.
-use mathlib.Core.Path.{_≡_}
-use mathlib.Core.Bool.{true, false, not}
+use mathlib.Core.Path.{_≡_, refl, ap}
+use mathlib.Core.Bool.{Bool, true, false, not}
 use mathlib.Core.List.{List}
 use Prim.Native.Nat.{ℕ, _<_}
-use borrow.Author.Tests.{not-true, ltb-true}
+use native.Mathlib.Omega.{arith}
+use borrow.Author.Tests.{not-true, ltb-true, lt-ltb}
 use lib.ListN.{length}
+use lib.Dec.{ltb}
 use Rattle.words.specs.declared.Found.the-variants.{At}
 use Rattle.words.specs.Lists.{firstAt}
 use Rattle.words.specs.BoolLaws.{both}
 use Rattle.sectors.specs.Sectors.{sec}
 use Rattle.counts.specs.declared.Geo.{Geo}
+use Rattle.counts.specs.GeoLaws.{limits}
 use Rattle.counts.specs.Geometry.{geoOk, gN, geoOf, countOf}
 use Rattle.entries.specs.Entries.{sectorsFor, goodName}
 use Rattle.directory.specs.Directory.{entriesOf, named}
-use Rattle.card.specs.Plan.{doIt, Plan, guard}
-use Rattle.card.specs.PlanLaws.{guard-inv, need-inv, Num, go!, guard-num, need-num}
+use Rattle.card.specs.Plan.{doIt, Plan, guard, need}
+use Rattle.card.specs.PlanLaws.{guard-inv, guard-yes, need-inv, Num, go!, guard-num, need-num}
 use Rattle.card.specs.Make.{makePlan}
 use Rattle.card.specs.Sound.{shapeOk, sound}
 use Rattle.session.specs.declared.Opened.{Opened}
@@ -27,28 +30,45 @@ use Rattle.store.specs.Sync.{bothPlan}
 
 -- ---- put and remove
 
-pub record PutOk (s : Opened) (work n d : List ℕ) (j a : ℕ) : Type 0 where
+pub record PutOk (s : Opened) (work n d : List ℕ) (goal j a : ℕ) : Type 0 where
   pub fit : fits s work ≡ true
   pub live : s .worn ≡ false
   pub name : goodName n ≡ true
+  pub below : goal < s .geo .s
   pub entry : placeIn s work n ≡ At j
-  pub run : runIn s work (sectorsFor (length d)) ≡ At a
+  pub run : runIn s work (sectorsFor (length d)) goal ≡ At a
 
-pub put-inv : (s : Opened) (work n d : List ℕ) (j a : ℕ) → putPlan s work n d ≡ doIt j a → PutOk s work n d j a
+pub put-inv : (s : Opened) (work n d : List ℕ) (goal j a : ℕ) → putPlan s work n d goal ≡ doIt j a → PutOk s work n d goal j a
 unfolding putPlan
-put-inv s work n d j a h =
+put-inv s work n d goal j a h =
     let (h₁, r₁) = guard-inv 2 _ _ h in
     let (h₂, r₂) = guard-inv 9 _ _ r₁ in
     let (h₃, r₃) = guard-inv 5 _ _ r₂ in
-    let (i, h₄, r₄) = need-inv 7 _ _ r₃ in
-    let (b, h₅, r₅) = need-inv 8 _ _ r₄ in
+    let (h₄, r₄) = guard-inv 11 _ _ r₃ in
+    let (i, h₅, r₅) = need-inv 7 _ _ r₄ in
+    let (b, h₆, r₆) = need-inv 8 _ _ r₅ in
     let ei : i ≡ j = cc in
     let eb : b ≡ a = cc in
-    record { fit = h₁; live = not-true (s .worn) h₂; name = h₃; entry = rw ei at h₄; run = rw eb at h₅ }
+    record { fit = h₁; live = not-true (s .worn) h₂; name = h₃; below = ltb-true _ _ h₄; entry = rw ei at h₅; run = rw eb at h₆ }
 
-pub put-num : (s : Opened) (work n d : List ℕ) → Num (putPlan s work n d)
+pub put-num : (s : Opened) (work n d : List ℕ) (goal : ℕ) → Num (putPlan s work n d goal)
 unfolding putPlan
-put-num s work n d = guard-num 1 _ (guard-num 8 _ (guard-num 4 _ (need-num 6 _ (λ j. need-num 7 _ (λ a. go! j a)))))
+put-num s work n d goal = guard-num 1 _ (guard-num 8 _ (guard-num 4 _ (guard-num 10 _ (need-num 6 _ (λ j. need-num 7 _ (λ a. go! j a))))))
+
+-- goal 0 is below the S of every session that fits: put without a goal is "4, 2, 9, 5, 7, 8"
+pub put-plain : (s : Opened) (work n d : List ℕ) → putPlan s work n d 0
+    ≡ guard 2 (fits s work) (guard 9 (not (s .worn)) (guard 5 (goodName n)
+    (need 7 (placeIn s work n) (λ j. need 8 (runIn s work (sectorsFor (length d)) 0) (λ a. doIt j a)))))
+unfolding putPlan
+put-plain s work n d = go (fits s work) refl
+  where
+    go : (b : Bool) → fits s work ≡ b → guard 2 b (guard 9 (not (s .worn)) (guard 5 (goodName n) (guard 11 (ltb 0 (s .geo .s))
+        (need 7 (placeIn s work n) (λ j. need 8 (runIn s work (sectorsFor (length d)) 0) (λ a. doIt j a))))))
+        ≡ guard 2 b (guard 9 (not (s .worn)) (guard 5 (goodName n) (need 7 (placeIn s work n) (λ j. need 8 (runIn s work (sectorsFor (length d)) 0) (λ a. doIt j a)))))
+    go true e =
+        let l = limits (s .geo) (fit-inv s work e .shape) .sLow in
+        ap (λ (p : Plan). guard 2 true (guard 9 (not (s .worn)) (guard 5 (goodName n) p))) (guard-yes 11 _ (lt-ltb 0 (s .geo .s) (omega arith)))
+    go false e = unfold guard in refl
 
 pub record RemoveOk (s : Opened) (work n : List ℕ) (j : ℕ) : Type 0 where
   pub fit : fits s work ≡ true

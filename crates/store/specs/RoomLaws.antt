@@ -21,7 +21,7 @@ use Rattle.directory.specs.Directory.{entriesOf, named}
 use Rattle.directory.specs.DirectoryLaws.{entries-length, entries-lt}
 use Rattle.apages.specs.Bits.{bitAt}
 use Rattle.apages.specs.Runs.{runFor}
-use Rattle.apages.specs.LowestLaws.{run-found, run-for-some, run-page}
+use Rattle.apages.specs.LowestLaws.{run-for, run-page}
 use Rattle.card.specs.Files.{runOf, runAt}
 use Rattle.card.specs.BitmapLaws.{InData}
 use Rattle.card.specs.SpaceLaws.{page-wide, clear-bit}
@@ -73,11 +73,11 @@ module _ (s : Opened) (work : List ℕ) (F : Fit s work) where
   alike = present-wide ∙ sym cut-wide
 
   -- the run that was found lies inside the data, free in both views
-  pub room-in : (k a : ℕ) → 0 < k → runIn s work k ≡ At a
+  pub room-in : (k goal a : ℕ) → 0 < k → runIn s work k goal ≡ At a
       → (gF (s .geo) ≤ a) × (a + k ≤ s .geo .s) × (a % 4096 + k ≤ 4096) × ((n : ℕ) → a ≤ n → n < a + k → (bitAt p n ≡ 0) × (bitAt q n ≡ 0))
   unfolding runIn
-  room-in k a h e =
-      let (r, i, f) = run-found k p q h alike a (sym (run-for-some k p q (λ z. omega arith)) ∙ e) in
+  room-in k goal a h e =
+      let (r, i, f) = run-for k goal a p q h alike e .room in
       let u = in-the-data a (omega (arith, present-wide)) (f a (omega arith) (omega arith) .0) in
       let v = in-the-data (a + k - 1) (omega (arith, present-wide)) (f (a + k - 1) (omega arith) (omega arith) .0) in
       (u .0, omega (arith, v .1), i, f)
@@ -85,14 +85,14 @@ module _ (s : Opened) (work : List ℕ) (F : Fit s work) where
       in-the-data : (n : ℕ) → n < 4096 * gP (s .geo) → bitAt p n ≡ 0 → InData (s .geo) n
       in-the-data n l z = clear-bit (s .geo) (s .c .0) (presentTable s (sec work)) (sec work) (F .shape) pres (unfold presentPage in present-wide) n l (unfold presentPage in z) .0
 
-  run-room-in : (k a : ℕ) → runIn s work k ≡ At a → a + k ≤ s .geo .s
+  run-room-in : (k goal a : ℕ) → runIn s work k goal ≡ At a → a + k ≤ s .geo .s
   unfolding runIn runFor
-  run-room-in zero a e = omega (arith, at-one e)
-  run-room-in (suc k) a e = room-in (suc k) a (omega arith) e .1
+  run-room-in zero goal a e = omega (arith, at-one e)
+  run-room-in (suc k) goal a e = room-in (suc k) goal a (omega arith) e .1
 
-  run-page-in : (k a : ℕ) → runIn s work k ≡ At a → a % 4096 + k ≤ 4096
+  run-page-in : (k goal a : ℕ) → runIn s work k goal ≡ At a → a % 4096 + k ≤ 4096
   unfolding runIn
-  run-page-in k a e = run-page k a p q alike e
+  run-page-in k goal a e = run-page k goal a p q alike e
 
   -- the sectors that entry j's file holds in the present view
   earlier-room : (j : ℕ) → j < 4 * s .geo .d
@@ -118,11 +118,11 @@ module _ (s : Opened) (work : List ℕ) (F : Fit s work) where
       (arith, entries-length (s .geo) work, place-named (presentTable s (sec work)) (cutTable s (sec work)) n (entriesOf (s .geo) (sec work)) j h .below)
 
   -- what put's tests showed is what its change asks
-  put-able : (j a k : ℕ) (n d : List ℕ) → fits s work ≡ true → goodName n ≡ true → placeIn s work n ≡ At j → runIn s work k ≡ At a → k ≡ sectorsFor (length d)
+  put-able : (j goal a k : ℕ) (n d : List ℕ) → fits s work ≡ true → goodName n ≡ true → placeIn s work n ≡ At j → runIn s work k goal ≡ At a → k ≡ sectorsFor (length d)
       → CanEdit s work j a k n d
   unfolding sectorsFor gF
-  put-able j a k n d f g p r e =
-      let room = run-room-in k a r in
+  put-able j goal a k n d f g p r e =
+      let room = run-room-in k goal a r in
       let below = place-below n j p in
       record {
         laid = fit-laid s work f;
@@ -131,9 +131,9 @@ module _ (s : Opened) (work : List ℕ) (F : Fit s work) where
         short = short-name n g;
         enough = omega (arith, e);
         top = omega (arith, L .covered);
-        page = run-page-in k a r;
+        page = run-page-in k goal a r;
         room = omega (arith, F .sized);
-        inside = λ h. room-in k a h r .0;
+        inside = λ h. room-in k goal a h r .0;
         earlier = omega (arith, earlier-room j below, L .covered);
         earlierPage = earlier-page j below;
       }
@@ -154,9 +154,9 @@ module _ (s : Opened) (work : List ℕ) (F : Fit s work) where
         earlierPage = earlier-page j below;
       }
 
-pub can-put : (s : Opened) (work n d : List ℕ) (j a : ℕ) {k : ℕ} → fits s work ≡ true → goodName n ≡ true → placeIn s work n ≡ At j
-    → runIn s work (sectorsFor (length d)) ≡ At a → k ≡ sectorsFor (length d) → CanEdit s work j a k n d
-can-put s work n d j a {k} f g p r e = put-able s work (fit-inv s work f) j a k n d f g p (rw e r) e
+pub can-put : (s : Opened) (work n d : List ℕ) (goal j a : ℕ) {k : ℕ} → fits s work ≡ true → goodName n ≡ true → placeIn s work n ≡ At j
+    → runIn s work (sectorsFor (length d)) goal ≡ At a → k ≡ sectorsFor (length d) → CanEdit s work j a k n d
+can-put s work n d goal j a {k} f g p r e = put-able s work (fit-inv s work f) j goal a k n d f g p (rw e r) e
 
 pub can-remove : (s : Opened) (work n : List ℕ) (j : ℕ) → fits s work ≡ true → goodName n ≡ true
     → firstAt (named (presentTable s (sec work)) (presentTable s (sec work)) n) 0 (entriesOf (s .geo) (sec work)) ≡ At j → CanEdit s work j 0 0 n []

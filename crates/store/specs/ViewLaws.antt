@@ -56,9 +56,9 @@ module _ (s : Opened) (work : List ℕ) {v w : View} (ev : v ≡ presentView s) 
   place-here n e = rw (e, present-is, cut-is)
 
   -- the two maps that are searched
-  pub run-here : (k : ℕ) {r : Found} → r ≡ runFor k (pageIn (s .geo) (tableIn (s .geo) v (sec work)) (sec work)) (pageIn (s .geo) (tableIn (s .geo) w (sec work)) (sec work)) → r ≡ runIn s work k
+  pub run-here : (k goal : ℕ) {r : Found} → r ≡ runFor k goal (pageIn (s .geo) (tableIn (s .geo) v (sec work)) (sec work)) (pageIn (s .geo) (tableIn (s .geo) w (sec work)) (sec work)) → r ≡ runIn s work k goal
   unfolding runIn presentPage cutPage
-  run-here k er = er ∙ rw (present-is, cut-is)
+  run-here k goal er = er ∙ rw (present-is, cut-is)
 
 -- the run that entry j shows in the present view
 pub run-at-here : (s : Opened) (work : List ℕ) (j : ℕ) {v : View} {r : Run} → v ≡ presentView s → r ≡ runAt (s .geo) (tableIn (s .geo) v (sec work)) work j

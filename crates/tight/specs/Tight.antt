@@ -17,6 +17,8 @@ use Rattle.cards.proofs.mount.Kinds as mount·is
 use Rattle.cards.proofs.mount.Reads as mount
 use Rattle.edits.proofs.put.Kinds as put·is
 use Rattle.edits.proofs.put.Reads as put
+use Rattle.edits.proofs.put_at.Kinds as put_at·is
+use Rattle.edits.proofs.put_at.Reads as put_at
 use Rattle.edits.proofs.remove.Kinds as remove·is
 use Rattle.edits.proofs.remove.Reads as remove
 use Rattle.looks.proofs.get.Kinds as get·is
@@ -47,6 +49,8 @@ use Rattle.host.proofs.store_put.Kinds as store_put·is
 use Rattle.host.proofs.store_put.Reads as store_put
 use Rattle.host.proofs.store_free.Kinds as store_free·is
 use Rattle.host.proofs.store_free.Reads as store_free
+use Rattle.host.proofs.store_put_at.Kinds as store_put_at·is
+use Rattle.host.proofs.store_put_at.Reads as store_put_at
 use Rattle.host.proofs.store_sync.Kinds as store_sync·is
 use Rattle.host.proofs.store_sync.Reads as store_sync
 use Rattle.host.proofs.store_sync_count.Kinds as store_sync_count·is
@@ -67,6 +71,7 @@ pub record Contracts : Type 0 where
   pub ofMake : Tight 1 make·is.ps make·is.r make.Pre make.Post (λ κs s. now (s .1 .0) ∷ [])
   pub ofMount : Tight 2 mount·is.ps mount·is.r mount.Pre mount.Post (λ κs s. now (s .0) ∷ now (s .1 .0) ∷ [])
   pub ofPut : Tight 3 put·is.ps put·is.r put.Pre put.Post (λ κs s. now (s .1 .0) ∷ [])
+  pub ofPutAt : Tight 3 put_at·is.ps put_at·is.r put_at.Pre put_at.Post (λ κs s. now (s .1 .0) ∷ [])
   pub ofRemove : Tight 2 remove·is.ps remove·is.r remove.Pre remove.Post (λ κs s. now (s .1 .0) ∷ [])
   pub ofGet : Tight 3 get·is.ps get·is.r get.Pre get.Post (λ κs s. now (s .1 .1 .1 .0) ∷ [])
   pub ofFree : Tight 1 free·is.ps free·is.r free.Pre free.Post (λ κs s. [])
@@ -81,6 +86,7 @@ pub record Contracts : Type 0 where
   pub ofStoreRead : Tight 2 store_read·is.ps store_read·is.r store_read.Pre store_read.Post (λ κs s. now (s .1 .0) ∷ [])
   pub ofStoreMount : Tight 3 store_mount·is.ps store_mount·is.r store_mount.Pre store_mount.Post (λ κs s. now (s .1 .1 .0) ∷ now (s .0) ∷ now (s .1 .0) ∷ [])
   pub ofStorePut : Tight 4 store_put·is.ps store_put·is.r store_put.Pre store_put.Post (λ κs s. now (s .1 .0) ∷ [])
+  pub ofStorePutAt : Tight 4 store_put_at·is.ps store_put_at·is.r store_put_at.Pre store_put_at.Post (λ κs s. now (s .1 .0) ∷ [])
   pub ofStoreFree : Tight 3 store_free·is.ps store_free·is.r store_free.Pre store_free.Post (λ κs s. now (s .1 .1 .0) ∷ [])
   pub ofStoreSync : Tight 3 store_sync·is.ps store_sync·is.r store_sync.Pre store_sync.Post (λ κs s. now (s .0) ∷ now (s .1 .0) ∷ now (s .1 .1 .0) ∷ [])
   pub ofStoreSyncCount : Tight 3 store_sync_count·is.ps store_sync_count·is.r store_sync_count.Pre store_sync_count.Post (λ κs s. now (s .0) ∷ now (s .1 .0) ∷ now (s .1 .1 .0) ∷ [])
@@ -116,6 +122,7 @@ contracts =
       ofMake = λ κs a. (tt, λ x y s t p q. two p q);
       ofMount = λ κs a. (tt, λ x y s t p q. four p q);
       ofPut = λ κs a. (tt, λ x y s t p q. two p q);
+      ofPutAt = λ κs a. (tt, λ x y s t p q. two p q);
       ofRemove = λ κs a. (tt, λ x y s t p q. two p q);
       ofGet = λ κs a. (tt, λ x y s t p q. two p q);
       ofFree = λ κs a. (tt, λ x y s t p q. one p q);
@@ -130,6 +137,7 @@ contracts =
       ofStoreRead = λ κs a. (tt, λ x y s t p q. two p q);
       ofStoreMount = λ κs a. (tt, λ x y s t p q. five p q);
       ofStorePut = λ κs a. (tt, λ x y s t p q. two p q);
+      ofStorePutAt = λ κs a. (tt, λ x y s t p q. two p q);
       ofStoreFree = λ κs a. (tt, λ x y s t p q. two p q);
       ofStoreSync = λ κs a. (tt, λ x y s t p q. five p q);
       ofStoreSyncCount = λ κs a. (tt, λ x y s t p q. five p q);

@@ -1,11 +1,9 @@
--- What the searches found is what the change asks. Assumes nothing.
+-- The content's sectors, counted. Assumes nothing.
 use mathlib.Core.Path.{_∙_}
 use native.Mathlib.Omega.{arith}
 use borrow.Author.Needs.{needs}
-use denote.Ref.{now}
 use Rattle.counts.specs.TableLaws.{pages-few}
 use Rattle.store.specs.Edit.{putRun, putWork}
-use Rattle.store.specs.RoomLaws.{can-put}
 use Rattle.change.proofs.put_in.Statement.{statement}
 use Rattle.change.proofs.put_in.Tie as tie
 
@@ -13,16 +11,16 @@ sectors-of-requires : tie.Need-sectors-of-requires
 sectors-of-requires c κs = search needs
 
 cast-k : tie.Need-cast-k
-cast-k c = let a = c .before .before .before .before .args in let p = c .before .before .before .before .pre in let e = can-put (a .s) (now (a .work)) (now (a .name)) (now (a .content)) (a .j) (a .a) (p .0) (p .1 .0) (p .1 .1 .0) (p .1 .1 .1) (c .sectors-of .ensures) in omega (arith, e .top, pages-few (a .s .geo) (e .laid .s))
+cast-k c = let a = c .before .before .before .before .args in let e = c .before .before .before .before .pre in omega (arith, c .sectors-of .ensures, e .top, pages-few (a .s .geo) (e .laid .s))
 
 cast-t11 : tie.Need-cast-t11
-cast-t11 c = let a = c .before .before .before .before .args in let p = c .before .before .before .before .pre in let e = can-put (a .s) (now (a .work)) (now (a .name)) (now (a .content)) (a .j) (a .a) (p .0) (p .1 .0) (p .1 .1 .0) (p .1 .1 .1) (c .sectors-of .ensures) in omega (arith, e .top, pages-few (a .s .geo) (e .laid .s))
+cast-t11 c = let a = c .before .before .before .before .args in let e = c .before .before .before .before .pre in omega (arith, e .top, pages-few (a .s .geo) (e .laid .s))
 
 cast-t11-2 : tie.Need-cast-t11-2
-cast-t11-2 c = let a = c .before .before .before .before .args in let p = c .before .before .before .before .pre in let e = can-put (a .s) (now (a .work)) (now (a .name)) (now (a .content)) (a .j) (a .a) (p .0) (p .1 .0) (p .1 .1 .0) (p .1 .1 .1) (c .sectors-of .ensures) in omega (arith, e .top, e .enough, pages-few (a .s .geo) (e .laid .s))
+cast-t11-2 c = let a = c .before .before .before .before .args in let e = c .before .before .before .before .pre in omega (arith, e .top, e .enough, pages-few (a .s .geo) (e .laid .s))
 
 edit-requires : tie.Need-edit-requires
-edit-requires c κs = let p = c .before .before .before .before .before .pre in can-put _ _ _ _ _ _ (p .0) (p .1 .0) (p .1 .1 .0) (p .1 .1 .1) (c .before .sectors-of .ensures)
+edit-requires c κs = rw (c .before .sectors-of .ensures) (c .before .before .before .before .before .pre)
 
 same-length : tie.Need-same-length
 same-length c = search needs

@@ -24,31 +24,31 @@ add-a-end c = search needs
 add-b-end : tie.Need-add-b-end
 add-b-end c = search needs
 
-sub-lowest-run : tie.Need-sub-lowest-run
-sub-lowest-run c = search needs
+sub-run-after : tie.Need-sub-run-after
+sub-run-after c = search needs
 
-part-lowest-run-start : tie.Need-part-lowest-run-start
-part-lowest-run-start c = search needs
+part-run-after-start : tie.Need-part-run-after-start
+part-run-after-start c = search needs
 
-part-lowest-run-end : tie.Need-part-lowest-run-end
-part-lowest-run-end c = search needs
+part-run-after-end : tie.Need-part-run-after-end
+part-run-after-end c = search needs
 
-sub-lowest-run-2 : tie.Need-sub-lowest-run-2
-sub-lowest-run-2 c = search needs
+sub-run-after-2 : tie.Need-sub-run-after-2
+sub-run-after-2 c = search needs
 
-part-lowest-run-start-2 : tie.Need-part-lowest-run-start-2
-part-lowest-run-start-2 c = search needs
+part-run-after-start-2 : tie.Need-part-run-after-start-2
+part-run-after-start-2 c = search needs
 
-part-lowest-run-end-2 : tie.Need-part-lowest-run-end-2
-part-lowest-run-end-2 c = search needs
+part-run-after-end-2 : tie.Need-part-run-after-end-2
+part-run-after-end-2 c = search needs
 
-lowest-run-requires : tie.Need-lowest-run-requires
-lowest-run-requires c κs = search needs
+run-after-requires : tie.Need-run-after-requires
+run-after-requires c κs = search needs
 
 returns : tie.Need-returns
 returns c =
     let a = c .before .before .before .before .before .before .args in
-    c .lowest-run .ensures ∙ rw (sec-part (now (a .work)) (a .p .0), sec-part (now (a .work)) (a .q .0))
+    c .run-after .ensures ∙ rw (sec-part (now (a .work)) (a .p .0), sec-part (now (a .work)) (a .q .0))
 
 pub run-between-spec : {M : Type 1} → statement M
 run-between-spec =
@@ -60,11 +60,11 @@ run-between-spec =
     mul-b
     add-a-end
     add-b-end
-    sub-lowest-run
-    part-lowest-run-start
-    part-lowest-run-end
-    sub-lowest-run-2
-    part-lowest-run-start-2
-    part-lowest-run-end-2
-    lowest-run-requires
+    sub-run-after
+    part-run-after-start
+    part-run-after-end
+    sub-run-after-2
+    part-run-after-start-2
+    part-run-after-end-2
+    run-after-requires
     returns)
