@@ -1,8 +1,8 @@
 /*
- * Sooqidhaal: a file store on a lent card image, as seven functions for a host,
+ * Sooqidhaal: a file store on a lent card image, as functions for a host,
  * and two more for list over a lent table of lines.
  *
- * Link target/staticlib/libhost.a for the seven and target/staticlib/liblists.a
+ * Link target/staticlib/libhost.a for the first and target/staticlib/liblists.a
  * for list's two. They need nothing but memcpy, memmove and memset, and each
  * can be linked without the other.
  *
@@ -129,6 +129,17 @@ uint32_t store_mount(uint8_t *card, size_t card_len,
 uint32_t store_put(const uint8_t session[24], uint8_t *work, size_t work_len,
                    const uint8_t *name, size_t name_len,
                    const uint8_t *content, size_t content_len);
+
+/* The same with a goal sector, to keep files together: the content goes to the
+ * first run that starts at or after the goal and fits, or, where none does, to
+ * the lowest: 4, 2, 9, 5, 11, 7, 8. 11 is for a goal of S or more, also with no
+ * content; any lower goal is taken, one before the data too. Goal 0 is
+ * store_put. Whether there is room (8) does not depend on the goal. */
+uint32_t store_put_at(const uint8_t session[24],
+                      uint8_t *work, size_t work_len,
+                      const uint8_t *name, size_t name_len,
+                      const uint8_t *content, size_t content_len,
+                      uint32_t goal);
 
 /* Counts sectors of the working image: 4, 2. With 0, out holds two words: free
  * (clear in both views, so that a put can take them now) and waiting (the ones

@@ -1,4 +1,4 @@
-//! The seven host functions of the proved store and list's two, as safe Rust.
+//! The host functions of the proved store and list's two, as safe Rust.
 //!
 //! `include/sooqidhaal.h` declares the same for C. Each gives one of the
 //! numbers of the paper's table. Every call takes any image of any length, any
@@ -24,6 +24,11 @@ pub type SessionBytes = [u8; SESSION_BYTES];
 pub type ReportBytes = [u8; REPORT_BYTES];
 /// What free gives: words free, waiting.
 pub type RoomBytes = [u8; ROOM_BYTES];
+
+/// The sector at or after which a put looks for room first: any number is
+/// taken, and one that the card has not is refused.
+#[derive(Clone, Copy, Debug, Default, PartialEq, Eq)]
+pub struct Goal(pub u32);
 
 /// What a list gives, or a sync that counts.
 #[repr(C)]
@@ -65,6 +70,16 @@ mod symbols {
             name_len: usize,
             content: *const u8,
             content_len: usize,
+        ) -> u32;
+        pub fn store_put_at(
+            session: *const SessionBytes,
+            work: *mut u8,
+            work_len: usize,
+            name: *const u8,
+            name_len: usize,
+            content: *const u8,
+            content_len: usize,
+            goal: u32,
         ) -> u32;
         pub fn store_free(
             session: *const SessionBytes,
@@ -151,6 +166,31 @@ pub fn put(session: &SessionBytes, work: &mut [u8], name: &[u8], content: &[u8])
             name.len(),
             content.as_ptr(),
             content.len(),
+        )
+    }
+}
+
+/// The same with a goal: the first fitting run at or after it, else the lowest:
+/// 4, 2, 9, 5, 11, 7, 8. Goal 0 is put.
+pub fn put_at(
+    session: &SessionBytes,
+    work: &mut [u8],
+    name: &[u8],
+    content: &[u8],
+    goal: Goal,
+) -> u32 {
+    let work_len = work.len();
+    // SAFETY: see above.
+    unsafe {
+        symbols::store_put_at(
+            session,
+            work.as_mut_ptr(),
+            work_len,
+            name.as_ptr(),
+            name.len(),
+            content.as_ptr(),
+            content.len(),
+            goal.0,
         )
     }
 }

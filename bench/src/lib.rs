@@ -4,7 +4,7 @@
 //!
 //! * [`plain`] holds the calls of the second version.
 //! * [`stored`] holds the stored cards and the report expected for each.
-//! * [`host`] holds the seven host functions of the proved store and list's two.
+//! * [`host`] holds the host functions of the proved store and list's two.
 //! * [`store`] is what both have in common.
 //! * [`cutbench`] runs histories with cuts through both and compares.
 //! * [`measure`] times them and looks at their stack.

@@ -16,7 +16,7 @@ pub mod steps;
 mod view;
 
 pub use calls::{land, make, mount, sync, sync_count, unmount, unmount_count};
-pub use files::{free, get, list, put, remove, Room, ROOM_BYTES};
+pub use files::{free, get, list, put, put_at, remove, Room, ROOM_BYTES};
 pub use image::{set_word, word, Geometry, MOST_SECTORS, PAGE_SECTORS, SECTOR};
 pub use reading::{printed, read, read_get, read_list, Report, LONGEST_INPUT, REPORT_BYTES};
 pub use session::{Session, SESSION_BYTES};

@@ -1,7 +1,7 @@
-//! The seven calls of a store on numbers and byte buffers, and list over a lent
+//! The calls of a store on numbers and byte buffers, and list over a lent
 //! table of lines, so that two stores can be run beside each other.
 
-use crate::host::{self, Answer, ReportBytes, RoomBytes, SessionBytes};
+use crate::host::{self, Answer, Goal, ReportBytes, RoomBytes, SessionBytes};
 use crate::plain::steps::{self, Step};
 use crate::plain::{self, Line, Session};
 
@@ -19,6 +19,15 @@ pub trait Store: Sync {
     fn mount(&self, card: &mut [u8], work: &mut [u8], session: &mut SessionBytes) -> u32;
     /// Stores a whole file.
     fn put(&self, session: &SessionBytes, work: &mut [u8], name: &[u8], content: &[u8]) -> u32;
+    /// Stores a whole file, at or after a goal where it fits there.
+    fn put_at(
+        &self,
+        session: &SessionBytes,
+        work: &mut [u8],
+        name: &[u8],
+        content: &[u8],
+        goal: Goal,
+    ) -> u32;
     /// Counts the free sectors and the waiting ones; `out` stays on a refusal.
     fn free(&self, session: &SessionBytes, work: &[u8], out: &mut RoomBytes) -> u32;
     /// Brings the working image to the card.
@@ -64,6 +73,17 @@ impl Store for Proved {
 
     fn put(&self, session: &SessionBytes, work: &mut [u8], name: &[u8], content: &[u8]) -> u32 {
         host::put(session, work, name, content)
+    }
+
+    fn put_at(
+        &self,
+        session: &SessionBytes,
+        work: &mut [u8],
+        name: &[u8],
+        content: &[u8],
+        goal: Goal,
+    ) -> u32 {
+        host::put_at(session, work, name, content, goal)
     }
 
     fn free(&self, session: &SessionBytes, work: &[u8], out: &mut RoomBytes) -> u32 {
@@ -117,6 +137,17 @@ impl Store for Plain {
 
     fn put(&self, session: &SessionBytes, work: &mut [u8], name: &[u8], content: &[u8]) -> u32 {
         plain::put(&Session::decode(session), work, name, content)
+    }
+
+    fn put_at(
+        &self,
+        session: &SessionBytes,
+        work: &mut [u8],
+        name: &[u8],
+        content: &[u8],
+        goal: Goal,
+    ) -> u32 {
+        plain::put_at(&Session::decode(session), work, name, content, goal.0)
     }
 
     fn free(&self, session: &SessionBytes, work: &[u8], out: &mut RoomBytes) -> u32 {

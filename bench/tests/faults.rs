@@ -119,6 +119,32 @@ fn comparing_finds_every_wrong_byte_and_number() {
     }
 }
 
+/// Beside themselves where the number tells, which no goal that is taken may
+/// change, or a cut; and all of them beside the plain version.
+#[test]
+fn wrong_goals_are_found() {
+    for (wrong, what) in [
+        (Wrong::OnlyPastGoal, "goals: put gives 8, and 0"),
+        (Wrong::ReusesAtGoal, "a card shows"),
+    ] {
+        let small = found_by(&["edges"], Pair(&wrong, &wrong));
+        assert!(small.what.starts_with(what), "{}", small.what);
+    }
+    for wrong in [
+        Wrong::IgnoresGoal,
+        Wrong::PastGoal,
+        Wrong::OnlyPastGoal,
+        Wrong::GoalBelowF,
+        Wrong::GoalOfS,
+        Wrong::GoalAfterEntry,
+        Wrong::ReusesAtGoal,
+    ] {
+        let small = found(Pair(&wrong, &Plain));
+        let goal = |op: &Op| matches!(op, Op::PutAt { .. });
+        assert!(small.history.iter().any(goal), "{wrong:?}");
+    }
+}
+
 /// On cards of more than one page; beside itself a store that takes a run it
 /// should not take then meets a session that does not fit.
 #[test]
@@ -155,6 +181,7 @@ fn twelve_unsettled_sectors_make_4096_cards() {
 fn text_that_is_no_history_is_refused() {
     for bad in [
         "put a",
+        "put-at a 1 2",
         "land",
         "list",
         "read-list x",

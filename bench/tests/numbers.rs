@@ -90,6 +90,36 @@ fn no_entry_comes_before_no_room() {
     assert_eq!(host, before);
 }
 
+/// 4, 2, 9, 5, 11, 7, 8.
+#[test]
+fn a_goal_past_the_card_comes_after_the_name_and_before_the_entry() {
+    let mut host = busy();
+    host.store("d", 1);
+    let before = host.clone();
+    let page = content(512 * 4);
+    for goal in [10, 11, u32::MAX] {
+        assert_eq!(host.put_at("", &page, goal), 5);
+        assert_eq!(host.put_at("e", &page, goal), 11);
+        assert_eq!(host.put_at("a", &page, goal), 11);
+        assert_eq!(host.put_at("a", b"", goal), 11);
+    }
+    for goal in [0, 5, 6, 9] {
+        assert_eq!(host.put_at("", &page, goal), 5);
+        assert_eq!(host.put_at("e", &page, goal), 7);
+        assert_eq!(host.put_at("a", &page, goal), 8);
+    }
+    assert_eq!(host, before);
+    host.session = unfit(10);
+    assert_eq!(host.put_at("", b"", 10), 2);
+    host.session = CLOSED;
+    assert_eq!(host.put_at("", b"", 10), 4);
+    let mut card = fresh_card(10, 1, 1);
+    set_word(&mut card, 1, 0, TOP - 1);
+    let mut worn = Host::mount(card);
+    assert_eq!(worn.sync(), 0);
+    assert_eq!(worn.put_at("", b"", 10), 9);
+}
+
 #[test]
 fn a_bad_name_comes_before_a_full_directory() {
     let mut host = busy();

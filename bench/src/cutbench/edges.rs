@@ -3,7 +3,7 @@
 
 use super::op::Op;
 use super::parse::history;
-use crate::plain::TOP;
+use crate::plain::{Geometry, TOP};
 
 /// All of them.
 pub fn all() -> Vec<Vec<Op>> {
@@ -12,6 +12,7 @@ pub fn all() -> Vec<Vec<Op>> {
     texts.extend(crash_counts());
     texts.extend(full_cards());
     texts.extend(full_directories());
+    texts.extend(goals());
     let parsed = |text: &String| history(text).expect("a history of this file");
     texts.iter().map(parsed).collect()
 }
@@ -115,6 +116,41 @@ fn full_directories() -> Vec<String> {
              read-list {all}; read-list {more}; read-list 0; remove f3; list {less}; put more 0 1; put f3 0 2; remove f3; try 3; sync; put more 1 3; read;
              try 4; cut-in unmount 5000 5; mount; put f3 1 1; put f2 1 1; sync; unmount; read"
         ));
+    }
+    texts
+}
+
+/// Puts with goals before the data, in it, at both sides of its end and far
+/// past it: with room at the goal, with room before it alone, with none, over
+/// sectors that wait for a sync, and with no entry left.
+fn goals() -> Vec<String> {
+    let mut texts = Vec::new();
+    for (s, t, d) in [(7, 1, 1), (10, 1, 1), (20, 1, 3), (256, 8, 8)] {
+        let f = Geometry::within_limits(s, t, d).map_or(0, |geometry| geometry.f());
+        let data = 512 * (s - f);
+        for goal in [
+            0,
+            1,
+            f - 1,
+            f,
+            f + 1,
+            f + 2,
+            s - 2,
+            s - 1,
+            s,
+            s + 1,
+            u32::MAX,
+        ] {
+            texts.push(format!(
+                "fresh {s} {t} {d}; put-at a 1 1 {goal}; mount; put-at a 1 1 {goal};
+                 put-at b 513 2 {goal}; put-at c 0 3 {goal}; put-at % 1 4 {goal}; list 4; try 1;
+                 land {f}; put-at a 2 5 {goal}; put-at b 514 6 {goal}; list 4; sync; remove a;
+                 put-at d 1 7 {goal}; put-at e 600 8 {goal}; put-at g 1 9 {goal}; try 2;
+                 put-at b 700 10 {goal}; list 5; try 3; cut-in sync 1000 11; mount; remove b;
+                 put-at a 1 12 {goal}; sync; put-at a {data} 13 {goal}; put a 1 14; list 5;
+                 try 4; unmount; put-at a 1 15 {goal}; read"
+            ));
+        }
     }
     texts
 }

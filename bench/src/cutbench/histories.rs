@@ -32,11 +32,12 @@ pub fn random(dice: &mut Dice, length: usize) -> Vec<Op> {
         last_counts(dice, t, &mut list);
     }
     list.push(Op::Mount);
-    if let Some(geometry) = Geometry::within_limits(s, t, d).filter(|g| g.pairs() > 1) {
+    let geometry = Geometry::within_limits(s, t, d).expect("inside the limits");
+    if geometry.pairs() > 1 {
         fill(dice, &geometry, &mut list);
     }
     while list.len() < length {
-        some(dice, s, &mut list);
+        some(dice, &geometry, &mut list);
         if dice.one_in(5) {
             list.push(lines(dice));
         }
@@ -100,10 +101,15 @@ fn last_counts(dice: &mut Dice, t: u32, list: &mut Vec<Op>) {
 }
 
 /// A few lines more.
-fn some(dice: &mut Dice, s: u32, list: &mut Vec<Op>) {
+fn some(dice: &mut Dice, geometry: &Geometry, list: &mut Vec<Op>) {
+    let s = geometry.s();
     let seed = dice.roll() % 1_000_000;
     match dice.below(100) {
-        0..=37 => list.push(put(dice, s)),
+        0..=24 => list.push(put(dice, s)),
+        25..=37 => {
+            let goal = goal(dice, geometry);
+            list.push(at_goal(put(dice, s), goal));
+        }
         38..=49 => list.push(Op::Remove(name(dice))),
         50..=61 => lands(dice, s, list),
         62..=75 => list.push(Op::Try(seed)),
@@ -136,6 +142,30 @@ fn put(dice: &mut Dice, s: u32) -> Op {
         name: name(dice),
         bytes,
         seed: dice.roll() % 1_000_000,
+    }
+}
+
+/// The same put with a goal.
+pub fn at_goal(put: Op, goal: u32) -> Op {
+    match put {
+        Op::Put { name, bytes, seed } => Op::PutAt {
+            name,
+            bytes,
+            seed,
+            goal,
+        },
+        other => other,
+    }
+}
+
+/// A goal in the data, often near a page's end, or at the edges of the card.
+fn goal(dice: &mut Dice, geometry: &Geometry) -> u32 {
+    let (f, s) = (geometry.f(), geometry.s());
+    match dice.below(16) {
+        0 => *dice.one_of(&[0, f - 1, f, s - 1]),
+        1 => *dice.one_of(&[s, s + 1, u32::MAX]),
+        2..=6 if s > PAGE_SECTORS => PAGE_SECTORS - 8 + dice.below(16) as u32,
+        _ => f + dice.below((s - f) as usize) as u32,
     }
 }
 

@@ -1,6 +1,7 @@
 //! Histories of hostile input: random and mutated images, sessions, names and
 //! lengths to every call.
 
+use super::histories::at_goal;
 use super::op::{Op, Which};
 use crate::dice::Dice;
 use crate::plain::{self, PAGE_SECTORS, SECTOR, TOP};
@@ -166,7 +167,11 @@ fn call(dice: &mut Dice) -> Op {
         1 => Op::Make(10, 1 + dice.below(2) as u32, 1),
         2..=3 => Op::Read,
         4..=5 => Op::Mount,
-        6..=9 => put(dice),
+        6..=7 => put(dice),
+        8..=9 => {
+            let goal = word(dice);
+            at_goal(put(dice), goal)
+        }
         10..=12 => Op::Sync,
         13 => Op::Land(word(dice)),
         14..=15 => Op::Land(dice.below(11) as u32),

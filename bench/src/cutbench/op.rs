@@ -31,6 +31,13 @@ pub enum Op {
         bytes: usize,
         seed: u64,
     },
+    /// A put with a goal sector.
+    PutAt {
+        name: Vec<u8>,
+        bytes: usize,
+        seed: u64,
+        goal: u32,
+    },
     Sync,
     Land(u32),
     /// Both figures of free, which are asked after every other call as well.
@@ -116,6 +123,12 @@ impl fmt::Display for Op {
             Op::Read => write!(f, "read"),
             Op::Mount => write!(f, "mount"),
             Op::Put { name, bytes, seed } => write!(f, "put {} {bytes} {seed}", escaped(name)),
+            Op::PutAt {
+                name,
+                bytes,
+                seed,
+                goal,
+            } => write!(f, "put-at {} {bytes} {seed} {goal}", escaped(name)),
             Op::Sync => write!(f, "sync"),
             Op::Land(sector) => write!(f, "land {sector}"),
             Op::Free => write!(f, "free"),

@@ -12,9 +12,11 @@ pub fn all() -> Vec<Vec<Op>> {
     texts.extend([(4_097, 1, 1), (8_192, 1, 2), (8_193, 2, 1)].map(ends));
     texts.extend([(8_192, 1, 2), (12_288, 1, 2)].map(packed));
     texts.extend([(4_097, 1, 1), (8_193, 2, 1), (12_288, 1, 2)].map(damaged));
+    texts.extend([(4_097, 1, 1), (8_193, 2, 1), (12_288, 1, 2)].map(goals));
     texts.extend(limits());
     let largest = (MOST_SECTORS, 1, 9);
     texts.extend([packed(largest), two_groups(largest), ends_of_largest()]);
+    texts.push(goals(largest));
     texts.extend([across(MOST_SECTORS, 1, 8), exchanged(MOST_SECTORS, 1, 8)]);
     let parsed = |text: &String| history(text).expect("a history of this file");
     texts.iter().map(parsed).collect()
@@ -122,6 +124,36 @@ fn two_groups(card: Words) -> String {
         t + 3,
         t + 5,
         s - t
+    )
+}
+
+/// Goals on both sides of each page's end and of the card's: a run that would
+/// cross goes to the next page, and one that fits nowhere later to the lowest.
+fn goals(card: Words) -> String {
+    let (s, t, d) = card;
+    let g = geometry(card);
+    let last = s - s % PAGE_SECTORS;
+    let mut text = format!("fresh {s} {t} {d}; mount; ");
+    let ends = [PAGE_SECTORS, last.min(s - 1), s];
+    for (i, end) in ends.into_iter().enumerate() {
+        for goal in end - 3..=end {
+            let put = |k: u32| format!("put-at g{k} {} {i} {goal}; ", bytes(k));
+            text += &(put(1) + &put(3) + &put(2) + "list 3; try 1; ");
+        }
+        text += "sync; ";
+    }
+    let first = PAGE_SECTORS - g.f();
+    text + &format!(
+        "put-at w {} 4 {}; put-at w {} 5 {}; list 4; try 2; put-at g3 1537 6 {PAGE_SECTORS};
+         cut-in sync {} 7; mount; put-at w {} 8 {s}; list 4; remove g2; put-at g1 1 9 {};
+         unmount; read",
+        bytes(first),
+        PAGE_SECTORS - 1,
+        bytes(PAGE_SECTORS),
+        g.f(),
+        s - t + 1,
+        bytes(first + 1),
+        s - 1
     )
 }
 

@@ -32,6 +32,12 @@ fn op(line: &str) -> Option<Op> {
             bytes: number(w)?,
             seed: number(w)?,
         },
+        "put-at" => Op::PutAt {
+            name: name(w)?,
+            bytes: number(w)?,
+            seed: number(w)?,
+            goal: number(w)?,
+        },
         "sync" => Op::Sync,
         "land" => Op::Land(number(w)?),
         "free" => Op::Free,

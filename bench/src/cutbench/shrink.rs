@@ -66,7 +66,7 @@ fn shorten(history: &mut Vec<Op>, i: usize, fails: &impl Fn(&[Op]) -> Option<usi
     for fewer in [0, 1, 512, 513, 1_024] {
         let mut shorter = history.clone();
         match &mut shorter[i] {
-            Op::Put { bytes, .. } if *bytes > fewer => *bytes = fewer,
+            Op::Put { bytes, .. } | Op::PutAt { bytes, .. } if *bytes > fewer => *bytes = fewer,
             _ => return,
         }
         if fails(&shorter).is_some() {

@@ -15,16 +15,17 @@ pub struct Tally {
     /// Cards read back and compared with the files that they must show.
     pub cards: u64,
     /// How often each call gave each number.
-    pub given: [[u64; 12]; 9],
+    pub given: [[u64; 12]; 10],
 }
 
-/// One of the seven calls or of list's two, as a row of the numbers given.
+/// One of the calls for a host, as a row of the numbers given.
 #[derive(Clone, Copy, Debug, PartialEq, Eq)]
 pub enum Call {
     Make,
     Read,
     Mount,
     Put,
+    PutAt,
     Free,
     Sync,
     Land,
@@ -33,11 +34,12 @@ pub enum Call {
 }
 
 /// The calls and their names, with the numbers that the paper lets each give.
-const NUMBERS: [(Call, &str, &[usize]); 9] = [
+const NUMBERS: [(Call, &str, &[usize]); 10] = [
     (Call::Make, "make", &[0, 1]),
     (Call::Read, "read", &[0, 1, 2]),
     (Call::Mount, "mount", &[0, 1, 2, 3]),
     (Call::Put, "put", &[0, 2, 4, 5, 7, 8, 9]),
+    (Call::PutAt, "put-at", &[0, 2, 4, 5, 7, 8, 9, 11]),
     (Call::Free, "free", &[0, 2, 4]),
     (Call::Sync, "sync", &[0, 1, 2, 4, 9]),
     (Call::Land, "land", &[0, 1, 2, 4, 11]),

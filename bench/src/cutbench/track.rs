@@ -2,11 +2,13 @@
 
 use super::choices::Choices;
 use super::files::{files_of, Files};
+use super::image::Image;
 use super::op::Cuttable;
 use super::summary::Call;
 use super::world::{Outcome, World};
+use crate::host::Goal;
 use crate::plain::steps::{counted, Step};
-use crate::plain::{self, Session, DONE, NO_ROOM, PAGE_SECTORS, SECTOR};
+use crate::plain::{self, Session, DONE, NO_ROOM, NO_SECTOR, PAGE_SECTORS, SECTOR};
 
 /// What is known of a history.
 pub struct Track {
@@ -79,10 +81,18 @@ impl World<'_> {
         })
     }
 
-    pub(super) fn put(&mut self, name: &[u8], content: &[u8]) -> Outcome {
-        let number = self.call(Call::Put, |store, side| {
-            store.put(&side.session, side.work.bytes_mut(), name, content)
-        })?;
+    /// A put, with a goal or without.
+    pub(super) fn put(&mut self, name: &[u8], content: &[u8], goal: Option<Goal>) -> Outcome {
+        let other = self.put_otherwise(name, content, goal);
+        let number = match goal {
+            None => self.call(Call::Put, |store, side| {
+                store.put(&side.session, side.work.bytes_mut(), name, content)
+            })?,
+            Some(goal) => self.call(Call::PutAt, |store, side| {
+                store.put_at(&side.session, side.work.bytes_mut(), name, content, goal)
+            })?,
+        };
+        self.goals_agree(number, goal, other)?;
         if let Some(track) = self.track.as_mut().filter(|_| number == DONE) {
             track.present.insert(name.to_vec(), content.to_vec());
             track.changes += content.len().div_ceil(SECTOR) + 1;
@@ -93,6 +103,32 @@ impl World<'_> {
                 Some(0) => Ok(()),
                 free => Err(format!("put of one sector gives 8 with free {free:?}")),
             };
+        }
+        Ok(())
+    }
+
+    /// What the store under test would give, and leave, if a put without a goal
+    /// had goal 0, and one with a goal had none.
+    fn put_otherwise(&self, name: &[u8], content: &[u8], goal: Option<Goal>) -> (u32, Image) {
+        let (store, side) = (self.stores[0], &self.sides[0]);
+        let mut image = side.work.clone();
+        let work = image.bytes_mut();
+        let number = match goal {
+            None => store.put_at(&side.session, work, name, content, Goal(0)),
+            Some(_) => store.put(&side.session, work, name, content),
+        };
+        (number, image)
+    }
+
+    /// Goal 0 is the put without a goal, to the byte; and any goal that is
+    /// taken leaves the number as it is.
+    fn goals_agree(&self, number: u32, goal: Option<Goal>, other: (u32, Image)) -> Outcome {
+        if number != other.0 && number != NO_SECTOR {
+            return Err(format!("goals: put gives {number}, and {}", other.0));
+        }
+        let same = self.sides[0].work.bytes() == other.1.bytes();
+        if goal.is_none_or(|goal| goal == Goal(0)) && (number != other.0 || !same) {
+            return Err("goals: put differs with goal 0".into());
         }
         Ok(())
     }

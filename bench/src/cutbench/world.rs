@@ -6,6 +6,7 @@ use super::op::{Op, Which};
 use super::summary::{Call, Tally};
 use super::track::Track;
 use crate::dice::Dice;
+use crate::host::Goal;
 use crate::plain::{self, word, Geometry, Session, MOST_SECTORS, SECTOR};
 use crate::store::Store;
 use crate::stored::{self, StoredCard};
@@ -64,7 +65,16 @@ impl<'a> World<'a> {
             Op::Make(s, t, d) => self.make(*s, *t, *d),
             Op::Read => self.with_card(|world, card| world.read(card)).map(|_| ()),
             Op::Mount => self.mount(),
-            Op::Put { name, bytes, seed } => self.put(name, &Dice::new(*seed).bytes(*bytes)),
+            Op::Put { name, bytes, seed } => self.put(name, &Dice::new(*seed).bytes(*bytes), None),
+            Op::PutAt {
+                name,
+                bytes,
+                seed,
+                goal,
+            } => {
+                let content = Dice::new(*seed).bytes(*bytes);
+                self.put(name, &content, Some(Goal(*goal)))
+            }
             Op::Sync => self.sync(),
             Op::Land(sector) => self.land(*sector),
             Op::Free => Ok(()),

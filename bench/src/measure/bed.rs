@@ -1,6 +1,6 @@
 //! The cards that are measured, and the calls on them.
 
-use crate::host::SessionBytes;
+use crate::host::{Goal, SessionBytes};
 use crate::plain::{self, Line, Session, MOST_SECTORS, PAGE_SECTORS, SECTOR};
 use crate::store::Store;
 
@@ -35,6 +35,10 @@ pub enum Call {
     Read,
     Mount,
     Put(usize),
+    /// A put of one sector with the middle of the data as its goal.
+    PutAt,
+    /// A put of one sector with the last sector as its goal.
+    PutAtEnd,
     Sync,
     Land,
     /// A land of sector S, which is refused with 11 after the fit test.
@@ -47,13 +51,15 @@ pub enum Call {
 }
 
 /// All of them, in the order of the tables.
-pub const CALLS: [Call; 11] = [
+pub const CALLS: [Call; 13] = [
     Call::Make,
     Call::Read,
     Call::Mount,
     Call::Put(0),
     Call::Put(1),
     Call::Put(16),
+    Call::PutAt,
+    Call::PutAtEnd,
     Call::Sync,
     Call::Land,
     Call::Fit,
@@ -69,6 +75,8 @@ impl Call {
             Call::Read => "read".into(),
             Call::Mount => "mount".into(),
             Call::Put(sectors) => format!("put {sectors}"),
+            Call::PutAt => "put 1, goal in the middle".into(),
+            Call::PutAtEnd => "put 1, goal at the end".into(),
             Call::Sync => "sync".into(),
             Call::Land => "land".into(),
             Call::Fit => "land, no such sector".into(),
@@ -166,6 +174,13 @@ impl Bed {
             Call::Read => store.read(&self.card, &mut [0; 16]),
             Call::Mount => store.mount(&mut self.card, &mut self.work, &mut self.session),
             Call::Put(_) => store.put(&self.session, &mut self.work, &self.name, content),
+            Call::PutAt | Call::PutAtEnd => {
+                let f = first_data(self.geometry);
+                let middle = f + (s - f) / 2;
+                let goal = Goal(if call == Call::PutAt { middle } else { s - 1 });
+                let (name, work) = (&self.name, &mut self.work);
+                store.put_at(&self.session, work, name, content, goal)
+            }
             Call::Sync => store.sync(&mut self.session, &mut self.card, &mut self.work),
             Call::Land => {
                 let sector = first_data(self.geometry);

@@ -110,6 +110,7 @@ fn median(mut list: Vec<f64>) -> f64 {
 pub fn content_bytes(call: Call) -> usize {
     match call {
         Call::Put(sectors) => (SECTOR * sectors).saturating_sub(1),
+        Call::PutAt | Call::PutAtEnd => SECTOR - 1,
         _ => 0,
     }
 }

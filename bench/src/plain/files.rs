@@ -5,19 +5,34 @@ use super::image::{bytes_of, set_bit, PAGE_SECTORS, SECTOR};
 use super::index::Group;
 use super::session::{Open, Session};
 use super::view::{Line, View};
-use super::{number, BAD_NAME, NO_ENTRY, NO_FILE, NO_ROOM, SHORT_OUTPUT, WORN};
+use super::{number, BAD_NAME, NO_ENTRY, NO_FILE, NO_ROOM, NO_SECTOR, SHORT_OUTPUT, WORN};
 use std::ops::Range;
 
 /// Stores a whole file under a name.
 pub fn put(session: &Session, work: &mut [u8], name: &[u8], content: &[u8]) -> u32 {
-    number(try_put(session, work, name, content))
+    put_at(session, work, name, content, 0)
 }
 
-fn try_put(session: &Session, work: &mut [u8], name: &[u8], content: &[u8]) -> Result<(), u32> {
+/// The same with a goal sector: the first fitting run at or after it, else the
+/// lowest.
+pub fn put_at(session: &Session, work: &mut [u8], name: &[u8], content: &[u8], goal: u32) -> u32 {
+    number(try_put(session, work, name, content, goal))
+}
+
+fn try_put(
+    session: &Session,
+    work: &mut [u8],
+    name: &[u8],
+    content: &[u8],
+    goal: u32,
+) -> Result<(), u32> {
     let (open, name) = ready_to_change(session, work, name)?;
+    if goal >= open.geometry.s() {
+        return Err(NO_SECTOR);
+    }
     let (present, cut) = (open.present(work), open.cut(work));
     let i = entry_for(&present, &cut, &name).ok_or(NO_ENTRY)?;
-    let run = room_for(&present, &cut, content.len()).ok_or(NO_ROOM)?;
+    let run = room_for(&present, &cut, content.len(), goal).ok_or(NO_ROOM)?;
     let earlier = present.shown(i).run();
     let version = Version {
         state: 1,
@@ -136,16 +151,23 @@ fn entry_for(present: &View, cut: &View, name: &StoredName) -> Option<usize> {
     of_name.or_else(|| entries.find(|i| !in_either(i)))
 }
 
-/// The lowest run of data sectors free in both views and inside one page, for
-/// so many bytes; 0 bytes take none, from 0.
-fn room_for(present: &View, cut: &View, bytes: usize) -> Option<Range<u32>> {
+/// The run for so many bytes: the first that fits at or after the goal, else
+/// the lowest; 0 bytes take none, from 0.
+fn room_for(present: &View, cut: &View, bytes: usize, goal: u32) -> Option<Range<u32>> {
     let sectors = u32::try_from(bytes.div_ceil(SECTOR)).ok()?;
     if sectors == 0 {
         return Some(0..0);
     }
+    let at_or_after = first_run(present, cut, sectors, goal);
+    at_or_after.or_else(|| first_run(present, cut, sectors, 0))
+}
+
+/// The lowest run of so many data sectors that starts at or after a sector, is
+/// free in both views and lies inside one page.
+fn first_run(present: &View, cut: &View, sectors: u32, from: u32) -> Option<Range<u32>> {
     let free = |sector: u32| !present.in_use(sector) && !cut.in_use(sector);
     let mut run = 0..0;
-    for sector in present.geometry.f()..present.geometry.s() {
+    for sector in from.max(present.geometry.f())..present.geometry.s() {
         if run.end != sector || sector % PAGE_SECTORS == 0 {
             run = sector..sector;
         }

@@ -26,6 +26,12 @@ static uint32_t put(const char *name, size_t bytes)
                      bytes);
 }
 
+static uint32_t put_at(const char *name, size_t bytes, uint32_t goal)
+{
+    return store_put_at(session, work, sizeof work, (const uint8_t *)name, strlen(name), content,
+                        bytes, goal);
+}
+
 /* Whether a line is a file of 513 bytes with this name and start. */
 static int shows(const struct store_line *line, const char *name, uint32_t start)
 {
@@ -51,8 +57,10 @@ int main(void)
     MUST(store_free(session, work, sizeof work, room), STORE_DONE);
     MUST(room[0], 2);
     MUST(room[4], 0);
-    MUST(put("left_arm", 513), STORE_DONE);
+    MUST(put_at("left_arm", 513, 7), STORE_DONE);
     MUST(put("more", 1), STORE_NO_ROOM);
+    MUST(put_at("more", 0, 10), STORE_NO_SECTOR);
+    MUST(put_at("more", 1, 9), STORE_NO_ROOM);
     MUST(store_read(card, sizeof card, report), STORE_DONE);
     MUST(report[8], 0);
     MUST(report[12], 4);

@@ -55,6 +55,11 @@ impl Host {
         plain::put(&self.session, &mut self.work, name.as_bytes(), content)
     }
 
+    pub fn put_at(&mut self, name: &str, content: &[u8], goal: u32) -> u32 {
+        let (session, name) = (&self.session, name.as_bytes());
+        plain::put_at(session, &mut self.work, name, content, goal)
+    }
+
     /// Puts so many bytes of some content, which must be taken.
     pub fn store(&mut self, name: &str, bytes: usize) {
         let number = self.put(name, &content(bytes));

@@ -1,7 +1,7 @@
 //! Stores that are wrong on purpose. Most look right until a cut.
 
 use crate::paged;
-use bench::host::{Answer, ReportBytes, RoomBytes, SessionBytes};
+use bench::host::{Answer, Goal, ReportBytes, RoomBytes, SessionBytes};
 use bench::plain::steps::Step;
 use bench::plain::{self, set_word, word, Geometry, Line, Room, Session, PAGE_SECTORS, SECTOR};
 use bench::store::{Plain, Steps, Store};
@@ -37,6 +37,20 @@ pub enum Wrong {
     WaitsForAll,
     /// Free writes its output also where it refuses.
     FreeWrites,
+    /// Put takes the lowest run whatever its goal is.
+    IgnoresGoal,
+    /// Put looks from the sector after its goal.
+    PastGoal,
+    /// Put finds no room where none is at or after its goal.
+    OnlyPastGoal,
+    /// Put refuses a goal before the data.
+    GoalBelowF,
+    /// Put takes a goal of S.
+    GoalOfS,
+    /// Put looks for an entry before it looks at its goal.
+    GoalAfterEntry,
+    /// Put with a goal uses sectors that were freed since the last sync.
+    ReusesAtGoal,
     /// Put takes a run across a page's end.
     CrossesPages,
     /// A put changes one group where it should change two.
@@ -85,6 +99,32 @@ impl Store for Wrong {
                 number
             }
             _ => Plain.put(session, work, name, content),
+        }
+    }
+
+    fn put_at(
+        &self,
+        session: &SessionBytes,
+        work: &mut [u8],
+        name: &[u8],
+        content: &[u8],
+        goal: Goal,
+    ) -> u32 {
+        let plain = |work: &mut [u8], goal| Plain.put_at(session, work, name, content, goal);
+        let (f, s) = geometry(session).map_or((0, 0), |g| (g.f(), g.s()));
+        match self {
+            _ if goal == Goal(0) => self.put(session, work, name, content),
+            Wrong::IgnoresGoal if goal.0 < s => plain(work, Goal(0)),
+            Wrong::PastGoal if goal.0 + 1 < s => plain(work, Goal(goal.0 + 1)),
+            Wrong::OnlyPastGoal => put_only_past(session, work, name, content, goal),
+            Wrong::GoalBelowF if goal.0 < f => plain(work, Goal(s)),
+            Wrong::GoalOfS if goal.0 == s => plain(work, Goal(0)),
+            Wrong::GoalAfterEntry => match Plain.put(session, &mut work.to_vec(), name, content) {
+                7 => 7,
+                _ => plain(work, goal),
+            },
+            Wrong::ReusesAtGoal => put_reusing_at(session, work, name, content, goal),
+            _ => plain(work, goal),
         }
     }
 
@@ -198,6 +238,29 @@ fn put_in_place(session: &SessionBytes, work: &mut [u8], name: &[u8], content: &
 /// A put that takes the lowest run free in the present view alone: done where
 /// the rule says and then moved.
 fn put_reusing(session: &SessionBytes, work: &mut [u8], name: &[u8], content: &[u8]) -> u32 {
+    let place = reused(session, work, content, 0);
+    let before = work.to_vec();
+    let number = Plain.put(session, work, name, content);
+    moved(session, work, &before, name, number, place)
+}
+
+/// The same with a goal.
+fn put_reusing_at(
+    session: &SessionBytes,
+    work: &mut [u8],
+    name: &[u8],
+    content: &[u8],
+    goal: Goal,
+) -> u32 {
+    let at_goal = reused(session, work, content, goal.0);
+    let place = at_goal.or_else(|| reused(session, work, content, 0));
+    let before = work.to_vec();
+    let number = Plain.put_at(session, work, name, content, goal);
+    moved(session, work, &before, name, number, place)
+}
+
+/// The first run for some content that is free in the present view alone.
+fn reused(session: &SessionBytes, work: &[u8], content: &[u8], from: u32) -> Option<u32> {
     let before = lines(session, work);
     let free = |at: u32| {
         let mut runs = before
@@ -207,8 +270,30 @@ fn put_reusing(session: &SessionBytes, work: &mut [u8], name: &[u8], content: &[
     };
     let sectors = content.len().div_ceil(SECTOR) as u32;
     let inside = |at: u32| at % PAGE_SECTORS + sectors <= PAGE_SECTORS;
-    let place = lowest(session, sectors, |at, run| inside(at) && run.all(free));
-    put_at(session, work, name, content, place)
+    lowest(session, sectors, |at, run| {
+        at >= from && inside(at) && run.all(free)
+    })
+}
+
+/// A put that gives 8 where the run that it finds starts before its goal.
+fn put_only_past(
+    session: &SessionBytes,
+    work: &mut [u8],
+    name: &[u8],
+    content: &[u8],
+    goal: Goal,
+) -> u32 {
+    let before = work.to_vec();
+    let number = Plain.put_at(session, work, name, content, goal);
+    let after = lines(session, work);
+    let put = after.iter().find(|line| line.used_name() == name);
+    match put {
+        Some(line) if number == 0 && line.sectors > 0 && line.start < goal.0 => {
+            work.copy_from_slice(&before);
+            8
+        }
+        _ => number,
+    }
 }
 
 /// A put that takes the lowest run free in both views, whatever page's end lies
@@ -222,7 +307,9 @@ fn put_crossing(session: &SessionBytes, work: &mut [u8], name: &[u8], content: &
         }
         _ => None,
     };
-    put_at(session, work, name, content, place)
+    let before = work.to_vec();
+    let number = Plain.put(session, work, name, content);
+    moved(session, work, &before, name, number, place)
 }
 
 /// The geometry that a session speaks of.
@@ -242,22 +329,30 @@ fn lowest(
     (g.f()..=last).find(|at| good(*at, &mut (*at..at + sectors)))
 }
 
-/// A put that is done where the rule says and then moved to another place.
-fn put_at(
+/// A put that was done where the rule says is moved to another place, and the
+/// sectors there are as before.
+fn moved(
     session: &SessionBytes,
     work: &mut [u8],
+    before: &[u8],
     name: &[u8],
-    content: &[u8],
+    number: u32,
     place: Option<u32>,
 ) -> u32 {
-    let number = Plain.put(session, work, name, content);
-    if number != 0 || content.is_empty() {
+    if number != 0 {
         return number;
     }
     let after = lines(session, work);
     let put = after.iter().find(|line| line.used_name() == name);
     if let (Some(to), Some(line), Some(g)) = (place, put, geometry(session)) {
-        move_file(session, work, &g, line, to);
+        if line.sectors > 0 {
+            move_file(session, work, &g, line, to);
+            let left = |at: &u32| !(to..to + line.sectors).contains(at);
+            for at in (line.start..line.start + line.sectors).filter(left) {
+                let bytes = SECTOR * at as usize..SECTOR * (at as usize + 1);
+                work[bytes.clone()].copy_from_slice(&before[bytes]);
+            }
+        }
     }
     0
 }
