@@ -20,7 +20,7 @@ use Rattle.session.specs.Views.{sessionFiles}
 use Rattle.store.specs.declared.Room.{Room}
 use Rattle.store.specs.Steps.{setCount, setWord, syncSteps}
 use Rattle.store.specs.Mount.{mount}
-use Rattle.store.specs.Edit.{put, remove}
+use Rattle.store.specs.Edit.{put, putAt, remove}
 use Rattle.store.specs.Look.{get, free}
 use Rattle.store.specs.Sync.{land, sync, unmount}
 
@@ -31,6 +31,8 @@ pub data Act : Type 0 where
   mounts : ℕ → Act
   -- put of so many bytes 7 under a name
   puts : List ℕ → ℕ → ℕ → Act
+  -- the same with a goal
+  putsAt : List ℕ → ℕ → ℕ → ℕ → Act
   removes : List ℕ → ℕ → Act
   -- get into an output of so many bytes 9: the number and the count; that many bytes 7, and the rest as lent
   gets : List ℕ → ℕ → ℕ → ℕ → Act
@@ -102,6 +104,9 @@ run w (mounts k ∷ acts) =
     let r = mount (w .card) (w .work) in cond (isAnswer k 0 (r .answer)) (run (record { session = r .session; card = r .card; work = r .work }) acts) false
 run w (puts n b k ∷ acts) =
     let r = put (w .session) (w .work) n (replicate b 7) in
+    cond (isAnswer k 0 (r .answer)) (run (record { session = w .session; card = w .card; work = r .image }) acts) false
+run w (putsAt n b goal k ∷ acts) =
+    let r = putAt (w .session) (w .work) n (replicate b 7) goal in
     cond (isAnswer k 0 (r .answer)) (run (record { session = w .session; card = w .card; work = r .image }) acts) false
 run w (removes n k ∷ acts) =
     let r = remove (w .session) (w .work) n in

@@ -28,7 +28,7 @@ use Rattle.store.specs.Mount.{mountPlan, openedFrom, mountDone, mount}
 use Rattle.store.specs.Edit.{orElse, putPlace, placeIn, runIn, putPlan, putContent, editWork, putRun, putWork, put, removePlan, removeWork, remove, putAt}
 use Rattle.store.specs.Look.{get, list, noFigures, figures, free}
 use Rattle.store.specs.Sync.{bothPlan, land, grown, syncDone, sync, unmountDone, unmount}
-use Rattle.bench_sheet.specs.Acts.{Act, makes, mounts, puts, removes, gets, frees, syncs, lands, unmounts, cuts, syncCuts, shows, reads, readsLine, refuses, counts, workCounts, sets, tops, stamps, sameLine, hasLine, isAnswer, isReport, isRoom, stepsDone, run, all}
+use Rattle.bench_sheet.specs.Acts.{Act, makes, mounts, puts, putsAt, removes, gets, frees, syncs, lands, unmounts, cuts, syncCuts, shows, reads, readsLine, refuses, counts, workCounts, sets, tops, stamps, sameLine, hasLine, isAnswer, isReport, isRoom, stepsDone, run, all}
 
 abbrev pub a : List ℕ
 a = 97 ∷ []
@@ -99,6 +99,8 @@ others =
     ∷ ten (puts a 1 0 ∷ puts b 1 0 ∷ puts c 1 0 ∷ syncs 0 7 ∷ removes b 0 ∷ syncs 0 4 ∷ frees 2 0 ∷ puts d 1024 8 ∷ puts d 512 0 ∷ shows d 512 7 1 ∷ [])
     -- document 02: "A sync with no change writes exactly 1."; a sector that a land wrote is not written again
     ∷ ten (syncs 0 1 ∷ puts a 513 0 ∷ syncs 0 6 ∷ syncs 0 1 ∷ puts a 513 0 ∷ lands 5 0 ∷ syncs 0 5 ∷ unmounts 0 1 ∷ [])
+    -- document 02, No. 4: "the first fitting run at or after it, else the lowest"; 11 for a goal of S, none for one below F
+    ∷ ten (putsAt a 1 8 0 ∷ shows a 1 8 1 ∷ putsAt b 513 7 0 ∷ shows b 513 6 2 ∷ putsAt c 0 10 11 ∷ putsAt c 1 5 0 ∷ shows c 1 9 1 ∷ [])
     ∷ []
 
 -- every starred line of the bench sheet holds
