@@ -35,10 +35,10 @@ abbrev pub FitOf : Session → List ℕ → Type 0
 FitOf Closed work = Unit
 FitOf (Open s) work = fits s work ≡ true
 
-abbrev FitW : World → Type 0
+abbrev pub FitW : World → Type 0
 FitW w = FitOf (w .session) (w .work)
 
-cut-closed : (card work : List ℕ) → FitW (afterCut card work)
+pub cut-closed : (card work : List ℕ) → FitW (afterCut card work)
 unfolding afterCut
 cut-closed card work = tt
 
@@ -120,7 +120,7 @@ step-mount (Open s) card work p m = over (mount-closed card work (settled card) 
         → FitW (stepped (afterCut card work) (mount (afterCut card work .card) (afterCut card work .work)) (stepsOf mountC (afterCut card work)) (shownBy (afterCut card work .card)))
     over h = unfold afterCut in h
 
-step : (c : Call) (w : World) → FitW w → FitW (after c w)
+pub step : (c : Call) (w : World) → FitW w → FitW (after c w)
 step (makeC g) w h = step-make g w h
 step mountC w h = step-mount (w .session) (w .card) (w .work) (w .pending) (w .last)
 step syncC w h = step-sync (w .session) (w .card) (w .work) (w .pending) (w .last) h

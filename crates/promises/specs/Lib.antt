@@ -40,6 +40,8 @@ pub mod LeavesSync
 pub mod LeavesUnmount
 pub mod LeavesProved
 pub mod NoTwo
+pub mod Field
+pub mod FieldProved
 pub mod Free
 pub mod FreeCounts
 pub mod FreeProved
@@ -87,3 +89,8 @@ pub mod TrialsReuse
 pub mod TrialsEarly
 pub mod TrialsFar
 pub mod TrialsWrap
+pub mod Worries
+pub mod Wakes
+pub mod WorriesProved
+pub mod Promises
+pub mod PromisesProved

@@ -1,0 +1,74 @@
+-- What is promised, in one place: each field is one statement, and the file that has its words is named where it is brought in below. `promises` (PromisesProved)
+-- proves the record. Demand 1's equations stand in the contracts themselves: `contracts` (tight/Tight). Assumes nothing.
+use mathlib.Core.Path.{_≡_}
+use mathlib.Core.List.{List}
+use Prim.Native.Nat.{ℕ}
+use lib.ListN.{length, take}
+use Rattle.sectors.specs.Sectors.{applySteps}
+use Rattle.store.specs.Look.{free}
+use Rattle.promises.specs.Numbers.{Row, Gives, Numbers}
+use Rattle.promises.specs.Refusals.{Refusals}
+use Rattle.promises.specs.NoTwo.{NoTwo, InTable}
+use Rattle.promises.specs.PlainCalls.{AllShow}
+use Rattle.promises.specs.Answers.{PutAnswers, RemoveAnswers}
+use Rattle.promises.specs.Steady.{MakeShows, MountShows, SyncShows, UnmountShows, LandShows}
+use Rattle.promises.specs.Leaves.{LandChanges, MountChanges, SyncChanges, UnmountChanges, CountsNothing}
+use Rattle.promises.specs.Along.{Simulation}
+use Rattle.promises.specs.FitKept.{FitsIn, KeepsFit}
+use Rattle.promises.specs.History.{Left, World, Call, before, stepsOf, pendingIn, Reach, Demand3}
+use Rattle.promises.specs.Whole.{CutsReadWhole}
+use Rattle.promises.specs.Sharp.{UnmountSharp}
+use Rattle.promises.specs.Free.{FreePromise, MountFree}
+use Rattle.promises.specs.Fewer.{AsBefore, Counts, Bounds}
+use Rattle.promises.specs.Goals.{Goals}
+use Rattle.promises.specs.Field.{Since, Demand3Field}
+use Rattle.promises.specs.Worries.{SyncAtTop, WornOnlyLooks, NoCountAbove, CountsUsedUp, NoneWakes}
+
+pub record Promises : Type 1 where
+  -- ---- the numbers: each call gives k exactly when the table says so; the table's words leave one number, and it is one of 0 to 11
+  pub numbers : Numbers
+  pub oneNumber : (rows : List Row) (j k : ℕ) → Gives rows j → Gives rows k → j ≡ k
+  pub inTable : InTable
+  -- ---- refusals: "A refusal returns its number and a zero count", and changes nothing
+  pub refusals : Refusals
+  -- ---- the plain list: every answer is that of a list of names with contents, which goes along with every history
+  pub plainList : Simulation
+  pub shows : AllShow
+  pub putAnswers : PutAnswers
+  pub removeAnswers : RemoveAnswers
+  pub makeShows : MakeShows
+  pub mountShows : MountShows
+  pub syncShows : SyncShows
+  pub unmountShows : UnmountShows
+  pub landShows : LandShows
+  -- ---- the bytes: what mount, land, sync and unmount leave, and what is counted
+  pub mountLeaves : MountChanges
+  pub landLeaves : LandChanges
+  pub syncLeaves : SyncChanges
+  pub unmountLeaves : UnmountChanges
+  pub countsNothing : CountsNothing
+  -- ---- fits: every call keeps a session's fit, so in every history an open session fits and no call answers 2
+  pub keepsFit : KeepsFit
+  pub alwaysFits : (w : World) → Since w → FitsIn (w .session) (w .work)
+  pub noTwo : (w : World) → Reach w → NoTwo w
+  -- ---- every cut: demand 3; the reading calls whole; sharper inside unmount; and it is not empty, between calls and between steps
+  pub cuts : Demand3
+  pub cutsRead : CutsReadWhole
+  pub sharp : UnmountSharp
+  pub possible : (w : World) → Reach w → Left (w .pending) (length (w .card)) (w .card)
+  pub possibleIn : (w : World) → Reach w → (c : Call) (n : ℕ) → Left (pendingIn c n w) (length (w .card)) (applySteps (take n (stepsOf c (before c w))) (w .card))
+  -- ---- document 02: the free figure, fewer writes at sync, put with a goal
+  pub freeFigures : FreePromise free
+  pub mountFree : MountFree
+  pub asBefore : AsBefore
+  pub counts : Counts
+  pub bounds : Bounds
+  pub goals : Goals
+  -- ---- the tester's worries, of histories from any sound card; a card just made is one
+  pub everyCut : Demand3Field
+  pub fromFresh : (w : World) → Reach w → Since w
+  pub syncAtTop : SyncAtTop
+  pub wornOnlyLooks : WornOnlyLooks
+  pub noCountAbove : NoCountAbove
+  pub countsUsedUp : CountsUsedUp
+  pub noneWakes : NoneWakes
