@@ -1,17 +1,29 @@
 -- What is promised, in one place: each field is one statement, and the file that has its words is named where it is brought in below. `promises` (PromisesProved)
 -- proves the record. Demand 1's equations stand in the contracts themselves: `contracts` (tight/Tight). Assumes nothing.
 use mathlib.Core.Path.{_≡_}
-use mathlib.Core.List.{List}
-use Prim.Native.Nat.{ℕ}
+use mathlib.Core.Bool.{false}
+use mathlib.Core.List.{List, [], _∷_}
+use Prim.Native.Nat.{ℕ, _+_}
 use lib.ListN.{length, take}
-use Rattle.sectors.specs.Sectors.{applySteps}
+use Rattle.sectors.specs.Sectors.{Step, applySteps}
+use Rattle.entries.specs.declared.Version.the-variants.{Absent, Present}
+use Rattle.entries.specs.Entries.{sectorsFor}
+use Rattle.card.specs.Plan.{doIt}
+use Rattle.session.specs.declared.Opened.{Opened}
+use Rattle.session.specs.declared.Session.the-variants.{Open}
+use Rattle.store.specs.Steps.{mountSteps, syncSteps, unmountSteps}
+use Rattle.store.specs.Edit.{putPlan, putRun, putAt, removePlan, remove}
 use Rattle.store.specs.Look.{free}
 use Rattle.promises.specs.Numbers.{Row, Gives, Numbers}
 use Rattle.promises.specs.Refusals.{Refusals}
 use Rattle.promises.specs.NoTwo.{NoTwo, InTable}
 use Rattle.promises.specs.PlainCalls.{AllShow}
 use Rattle.promises.specs.Answers.{PutAnswers, RemoveAnswers}
-use Rattle.promises.specs.Steady.{MakeShows, MountShows, SyncShows, UnmountShows, LandShows}
+use Rattle.promises.specs.Steady.{MakeShows, MountShows, MountCut, SyncShows, UnmountShows, LandShows, Refused}
+use Rattle.promises.specs.Places.{PutPlaces, RemovePlaces}
+use Rattle.promises.specs.Untouched.{Untouched}
+use Rattle.promises.specs.PairLeaves.{PutPairs, RemovePairs}
+use Rattle.promises.specs.Barriers.{barriersFrom, barriers, copies}
 use Rattle.promises.specs.Leaves.{LandChanges, MountChanges, SyncChanges, UnmountChanges, CountsNothing}
 use Rattle.promises.specs.Along.{Simulation}
 use Rattle.promises.specs.FitKept.{FitsIn, KeepsFit}
@@ -31,6 +43,7 @@ pub record Promises : Type 1 where
   pub inTable : InTable
   -- ---- refusals: "A refusal returns its number and a zero count", and changes nothing
   pub refusals : Refusals
+  pub refusedStay : (w : World) → Refused w
   -- ---- the plain list: every answer is that of a list of names with contents, which goes along with every history
   pub plainList : Simulation
   pub shows : AllShow
@@ -38,10 +51,19 @@ pub record Promises : Type 1 where
   pub removeAnswers : RemoveAnswers
   pub makeShows : MakeShows
   pub mountShows : MountShows
+  pub mountCut : MountCut
   pub syncShows : SyncShows
   pub unmountShows : UnmountShows
   pub landShows : LandShows
-  -- ---- the bytes: what mount, land, sync and unmount leave, and what is counted
+  -- ---- the bytes: which entry and run put and remove take, what each call leaves, and what is counted
+  pub putPlaces : PutPlaces
+  pub removePlaces : RemovePlaces
+  pub putLeaves : (s : Opened) (work n d : List ℕ) (goal : ℕ) → putAt (Open s) work n d goal .answer .number ≡ 0
+      → (j : ℕ) × (a : ℕ) × (putPlan s work n d goal ≡ doIt j a) × Untouched s j a (sectorsFor (length d)) (Present (putRun a d)) work n d (putAt (Open s) work n d goal .image)
+  pub removeLeaves : (s : Opened) (work n : List ℕ) → remove (Open s) work n .answer .number ≡ 0
+      → (j : ℕ) × (a : ℕ) × (removePlan s work n ≡ doIt j a) × Untouched s j 0 0 Absent work n [] (remove (Open s) work n .image)
+  pub putPairs : PutPairs
+  pub removePairs : RemovePairs
   pub mountLeaves : MountChanges
   pub landLeaves : LandChanges
   pub syncLeaves : SyncChanges
@@ -51,6 +73,11 @@ pub record Promises : Type 1 where
   pub keepsFit : KeepsFit
   pub alwaysFits : (w : World) → Since w → FitsIn (w .session) (w .work)
   pub noTwo : (w : World) → Reach w → NoTwo w
+  -- ---- where the barriers of mount, sync and unmount stand
+  pub mountBarriers : (card : List ℕ) → barriers (mountSteps card) ≡ 1 ∷ []
+  pub syncBarriers : (s : Opened) (card work : List ℕ) (r : List Step)
+      → barriers (syncSteps s card work r) ≡ copies s card work ∷ (copies s card work + 1) ∷ barriersFrom (copies s card work + 1) r
+  pub unmountBarriers : (s : Opened) (card work : List ℕ) → s .worn ≡ false → barriers (unmountSteps s card work) ≡ copies s card work ∷ (copies s card work + 1) ∷ []
   -- ---- every cut: demand 3; the reading calls whole; sharper inside unmount; and it is not empty, between calls and between steps
   pub cuts : Demand3
   pub cutsRead : CutsReadWhole

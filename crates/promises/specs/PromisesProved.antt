@@ -10,7 +10,11 @@ use Rattle.promises.specs.Refusals.{refusals}
 use Rattle.promises.specs.NoTwo.{no-two, in-table}
 use Rattle.promises.specs.ShownProved.{all-show}
 use Rattle.promises.specs.Answers.{put-answers, remove-answers}
-use Rattle.promises.specs.Steady.{make-shows, mount-shows, sync-same, unmount-shows, land-shows}
+use Rattle.promises.specs.Steady.{make-shows, mount-shows, mount-cut, sync-same, unmount-shows, land-shows, refused-same}
+use Rattle.promises.specs.Places.{put-places, remove-places}
+use Rattle.promises.specs.Untouched.{put-changes, remove-changes}
+use Rattle.promises.specs.PairLeaves.{put-pairs, remove-pairs}
+use Rattle.promises.specs.Barriers.{mount-barriers, sync-barriers, unmount-barriers}
 use Rattle.promises.specs.LeavesProved.{land-changes, mount-changes, sync-changes, unmount-changes, counts-nothing}
 use Rattle.promises.specs.AlongProved.{simulation}
 use Rattle.promises.specs.FitKept.{FitsIn, keeps-fit}
@@ -41,15 +45,23 @@ promises =
       oneNumber = gives-one;
       inTable = in-table;
       refusals = refusals;
+      refusedStay = refused-same;
       plainList = simulation;
       shows = all-show;
       putAnswers = put-answers;
       removeAnswers = remove-answers;
       makeShows = make-shows;
       mountShows = mount-shows;
+      mountCut = mount-cut;
       syncShows = sync-same;
       unmountShows = unmount-shows;
       landShows = land-shows;
+      putPlaces = put-places;
+      removePlaces = remove-places;
+      putLeaves = put-changes;
+      removeLeaves = remove-changes;
+      putPairs = put-pairs;
+      removePairs = remove-pairs;
       mountLeaves = mount-changes;
       landLeaves = land-changes;
       syncLeaves = sync-changes;
@@ -58,6 +70,9 @@ promises =
       keepsFit = keeps-fit;
       alwaysFits = λ w r. fits-say (w .session) (w .work) (fits-since r);
       noTwo = λ w r. no-two r;
+      mountBarriers = mount-barriers;
+      syncBarriers = sync-barriers;
+      unmountBarriers = unmount-barriers;
       cuts = demand-three;
       cutsRead = cuts-read-whole;
       sharp = unmount-sharp;
