@@ -18,7 +18,7 @@ use Rattle.counts.specs.declared.Stamp.{Stamp}
 use Rattle.counts.specs.Geometry.{gN, geoOk}
 use Rattle.counts.specs.Stamps.{maxTx, wordMax, stampOf, alive, showing, stampOk, deadBelow}
 use Rattle.entries.specs.declared.Version.the-variants.{Absent}
-use Rattle.entries.specs.Entries.{versionOf, newOf, oldOf, shownBytes, shown, isAbsent, versionOk, entryOk, nameBytes, nameOk}
+use Rattle.entries.specs.Entries.{versionOf, newOf, oldOf, entryRest, shownBytes, shown, isAbsent, versionOk, entryOk, nameBytes, nameOk}
 use Rattle.directory.specs.Directory.{sectorEntries, gone, apart}
 use Rattle.counts.specs.GeoLaws.{limits}
 use Rattle.card.specs.Files.{consFile, filesOf}
@@ -104,8 +104,8 @@ entry-blank g bound tab ok = join _ _ a (join _ _ (join _ _ (join _ _ b zeros) c
     b : deadBelow bound tab (stampOf e₀) ≡ true
     b = rw stamp-zero (dead-blank bound tab)
 
-    zeros : every isZero (drop 76 e₀) ≡ true
-    zeros = unfold every in refl
+    zeros : every isZero (entryRest e₀) ≡ true
+    zeros = unfold entryRest every in refl
 
     fine : versionOk g (replicate 16 0) ≡ true
     fine = unfold versionOk wordAt in refl

@@ -13,16 +13,17 @@ use Rattle.entries.specs.declared.Run.{Run}
 use Rattle.entries.specs.declared.Version.{Version}
 use Rattle.entries.specs.declared.Version.the-variants.{Absent, Present}
 use Rattle.entries.specs.Entries.{versionOf, shown, shownBytes, sectorsFor, runOk, entryOk}
-use Rattle.entries.specs.PassLaws.{passes, run-is, version-run}
+use Rattle.entries.specs.PassLaws.{passes, run-text, run-is, version-run}
 use Rattle.card.specs.Files.{filesOf, cover, runOf}
+use Rattle.card.specs.PieceLaws.{count-run}
 use Rattle.card.specs.FileLaws.{Within, none, within-cons}
 use Rattle.card.specs.RuleLaws.{cover-version}
 
 -- ---- a run that is well formed
 
 none-run : (g : Geo) → runOk g (runOf Absent) ≡ true
-unfolding runOk runOf sectorsFor
-none-run g = refl
+unfolding runOf sectorsFor
+none-run g = run-text g (runOf Absent)
 
 -- what an entry that passes shows: a run that is well formed, an empty one where it shows absent
 shown-run : (g : Geo) (bound : ℕ) (tab p : List ℕ) → entryOk g bound tab p ≡ true → runOk g (runOf (shown tab p)) ≡ true
@@ -59,4 +60,4 @@ cover-none tab n = refl
 pub cover-entry : (tab p : List ℕ) (es : List (List ℕ)) (n : ℕ)
     → cover (filesOf tab (p ∷ es)) n ≡ inRun (runOf (shown tab p) .start .0) (runOf (shown tab p) .sectors) n + cover (filesOf tab es) n
 unfolding filesOf
-cover-entry tab p es n = cover-version p (shown tab p) (filesOf tab es) n
+cover-entry tab p es n = omega (arith, cover-version p (shown tab p) (filesOf tab es) n, count-run (runOf (shown tab p)) n)

@@ -1,27 +1,25 @@
--- Laws of the files that a view shows: they lie inside the data, what they hold, and their contents. Assumes nothing.
-use mathlib.Core.Path.{_≡_, refl, sym, ap, _∙_}
+-- Laws of the files that a view shows: they lie inside the data, and what they hold. Assumes nothing.
+use mathlib.Core.Path.{_≡_, refl}
 use mathlib.Core.Bool.{true}
 use mathlib.Core.List.{List, [], _∷_, _++_, List·Memᴰ, List·Memᴰ·head, List·Memᴰ·tail}
-use mathlib.Core.Logic.{⊎-elim}
-use Prim.Native.Nat.{ℕ, suc, _+_, _*_, _≤_, _<_}
+use Prim.Native.Nat.{ℕ, suc, _+_, _≤_, _<_}
 use native.Mathlib.Omega.{arith}
 use lib.ListN.{length, take, drop, set}
-use lib.Seq.{take-take, set-split}
+use lib.Seq.{set-split}
 use Rattle.sums.specs.Sums.{inRun}
-use Rattle.sums.specs.SumLaws.{place}
 use Rattle.words.specs.Lists.{every}
 use Rattle.words.specs.BoolLaws.{both}
-use Rattle.sectors.specs.Sectors.{sec}
-use Rattle.sectors.specs.FlatLaws.{flat-same}
 use Rattle.counts.specs.declared.Geo.{Geo}
 use Rattle.counts.specs.Geometry.{gF}
 use Rattle.entries.specs.declared.Run.{Run}
 use Rattle.entries.specs.declared.Version.{Version}
 use Rattle.entries.specs.declared.Version.the-variants.{Absent, Present}
 use Rattle.entries.specs.Entries.{shown, entryOk}
-use Rattle.entries.specs.PassLaws.{passes, RunIs, shown-run, run-holds}
+use Rattle.entries.specs.PassLaws.{passes, RunIs, shown-run}
 use Rattle.card.specs.declared.Line.{Line}
-use Rattle.card.specs.Files.{consFile, filesOf, cover, contentOf}
+use Rattle.card.specs.Files.{FileHolds, consFile, filesOf, cover}
+use Rattle.card.specs.PieceLaws.{holds-count, holds-run, count-run}
+pub use Rattle.card.specs.PieceLaws.{in-run, out-run}
 
 -- ---- files of a list of entries
 
@@ -62,8 +60,7 @@ files-within g bound tab (p ∷ ps) h =
 pub record Holds (fs : List Line) (i : ℕ) : Type 0 where
   pub file : Line
   pub there : List·Memᴰ file fs
-  pub low : file .run .start .0 ≤ i
-  pub high : i < file .run .start .0 + file .run .sectors
+  pub held : FileHolds (file .run) i
 
 pub held-data : {g : Geo} {fs : List Line} → Within g fs → (i : ℕ) → Holds fs i → (gF g ≤ i) × (i < g .s)
 held-data {g} w i h = go w (h .there)
@@ -71,45 +68,29 @@ held-data {g} w i h = go w (h .there)
     go : {fs : List Line} → Within g fs → List·Memᴰ (h .file) fs → (gF g ≤ i) × (i < g .s)
     go (more {f = f} s w) (List·Memᴰ·head e) =
         let r : RunIs g (h .file .run) = rw e s in
-        let q = r .span (omega (arith, h .low, h .high)) in
-        (omega (arith, q .0, h .low), omega (arith, q .1, h .high))
+        let (lo, hi) = holds-run (h .file .run) i .0 (h .held) in
+        let q = r .span (omega arith) in
+        (omega (arith, q .0), omega (arith, q .1))
     go (more s w) (List·Memᴰ·tail m) = go w m
 
 -- ---- the sectors of files, counted
-
-pub in-run : (a n i : ℕ) → a ≤ i → i < a + n → inRun a n i ≡ 1
-in-run a n i lo hi = ⊎-elim (λ w. absurd (omega arith)) (⊎-elim (λ w. w .2) (λ w. absurd (omega arith))) (place a n i)
-
-pub out-run : (a n i : ℕ) → ¬ ((a ≤ i) × (i < a + n)) → inRun a n i ≡ 0
-out-run a n i o = ⊎-elim (λ w. w .1) (⊎-elim (λ w. absurd (o (w .0, w .1))) (λ w. w .2)) (place a n i)
 
 pub cover-append : (xs ys : List Line) (i : ℕ) → cover (xs ++ ys) i ≡ cover xs i + cover ys i
 unfolding cover
 cover-append [] ys i = omega arith
 cover-append (f ∷ xs) ys i = omega (arith, cover-append xs ys i)
 
-member-cover : (f : Line) (i : ℕ) (fs : List Line) → List·Memᴰ f fs → f .run .start .0 ≤ i → i < f .run .start .0 + f .run .sectors → 1 ≤ cover fs i
+member-cover : (f : Line) (i : ℕ) (fs : List Line) → List·Memᴰ f fs → FileHolds (f .run) i → 1 ≤ cover fs i
 unfolding cover
-member-cover f i (x ∷ fs) (List·Memᴰ·head e) lo hi = rw (← e) (omega (arith, in-run (f .run .start .0) (f .run .sectors) i lo hi))
-member-cover f i (x ∷ fs) (List·Memᴰ·tail m) lo hi = omega (arith, member-cover f i fs m lo hi)
+member-cover f i (x ∷ fs) (List·Memᴰ·head e) h = rw (← e) (omega (arith, holds-count (f .run) i .0 h))
+member-cover f i (x ∷ fs) (List·Memᴰ·tail m) h = omega (arith, member-cover f i fs m h)
 
 pub held-cover : (fs : List Line) (i : ℕ) → Holds fs i → 1 ≤ cover fs i
-held-cover fs i h = member-cover (h .file) i fs (h .there) (h .low) (h .high)
+held-cover fs i h = member-cover (h .file) i fs (h .there) (h .held)
 
 pub cover-out : {g : Geo} {fs : List Line} → Within g fs → (i : ℕ) → ¬ ((gF g ≤ i) × (i < g .s)) → cover fs i ≡ 0
 unfolding cover
 cover-out none i o = refl
 cover-out {g} (more {f = f} {fs = fs} s w) i o =
     let a : inRun (f .run .start .0) (f .run .sectors) i ≡ 0 = out-run _ _ i (λ q. let r = s .span (omega (arith, q .0, q .1)) in o (omega (arith, q .0, r .0), omega (arith, q .1, r .1))) in
-    omega (arith, cover-out w i o)
-
--- ---- contents
-
--- a run's content is the same where its sectors are
-pub content-same : (g : Geo) (a b : List ℕ) (r : Run) → RunIs g r → ((j : ℕ) → r .start .0 ≤ j → j < r .start .0 + r .sectors → sec a j ≡ sec b j) → contentOf a r ≡ contentOf b r
-unfolding contentOf
-content-same g a b r R h =
-    let l = run-holds g r R in
-    sym (take-take (r .bytes) (512 * r .sectors) (drop (512 * r .start .0) a) l)
-    ∙ ap (λ (x : List ℕ). take (r .bytes) x) (flat-same a b (r .sectors) (r .start .0) h)
-    ∙ take-take (r .bytes) (512 * r .sectors) (drop (512 * r .start .0) b) l
+    omega (arith, count-run (f .run) i, cover-out w i o)

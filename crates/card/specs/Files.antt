@@ -1,6 +1,6 @@
 -- The files that a view shows, the sectors they hold, and their contents. Assumes nothing.
-use mathlib.Core.List.{List, [], _∷_, _++_}
-use Prim.Native.Nat.{ℕ, _+_, _*_}
+use mathlib.Core.List.{List, [], _∷_, _++_, List·Memᴰ}
+use Prim.Native.Nat.{ℕ, _+_, _*_, _≤_, _<_}
 use lib.ListN.{length, take, drop, getD, replicate}
 use lib.Dec.{leb, ltb}
 use Rattle.sums.specs.Sums.{bit, inRun}
@@ -11,7 +11,7 @@ use Rattle.counts.specs.declared.Geo.{Geo}
 use Rattle.entries.specs.declared.Run.{Run}
 use Rattle.entries.specs.declared.Version.{Version}
 use Rattle.entries.specs.declared.Version.the-variants.{Absent, Present}
-use Rattle.entries.specs.Entries.{shown, nameBytes, goodName}
+use Rattle.entries.specs.Entries.{shown, nameBytes, goodName, Piece, piecesOf}
 use Rattle.directory.specs.Directory.{entriesOf, named}
 use Rattle.card.specs.declared.Line.{Line}
 use Rattle.card.specs.declared.Lined.{Lined}
@@ -27,19 +27,43 @@ unfoldable pub filesOf : List ℕ → List (List ℕ) → List Line
 filesOf tab [] = []
 filesOf tab (p ∷ ps) = consFile p (shown tab p) (filesOf tab ps)
 
+-- ---- the sectors of files
+
+-- sector n is one of a piece's
+abbrev pub InPiece : Piece → ℕ → Type 0
+InPiece q n = (q .at ≤ n) × (n < q .at + q .count)
+
+-- a file holds sector n: one of its pieces does
+abbrev pub FileHolds : Run → ℕ → Type 0
+FileHolds r n = (q : Piece) × List·Memᴰ q (piecesOf r) × InPiece q n
+
+-- how many of some pieces hold sector n
+unfoldable pub inPieces : List Piece → ℕ → ℕ
+inPieces [] n = 0
+inPieces (q ∷ qs) n = inRun (q .at) (q .count) n + inPieces qs n
+
+-- how many pieces of a file hold sector n
+unfoldable pub holdsAt : Run → ℕ → ℕ
+holdsAt r n = inPieces (piecesOf r) n
+
 -- how many of the files hold sector n: "each in one file"
 unfoldable pub cover : List Line → ℕ → ℕ
 cover [] n = 0
-cover (f ∷ fs) n = inRun (f .run .start .0) (f .run .sectors) n + cover fs n
+cover (f ∷ fs) n = holdsAt (f .run) n + cover fs n
 
 -- the sectors of all files
 unfoldable pub sectorsOf : List Line → ℕ
 sectorsOf [] = 0
 sectorsOf (f ∷ fs) = f .run .sectors + sectorsOf fs
 
--- the content of a run
+-- the bytes of some pieces, one behind the other
+unfoldable pub piecesIn : List ℕ → List Piece → List ℕ
+piecesIn img [] = []
+piecesIn img (q ∷ qs) = take (512 * q .count) (drop (512 * q .at) img) ++ piecesIn img qs
+
+-- the content of a file: the first bytes of its pieces
 unfoldable pub contentOf : List ℕ → Run → List ℕ
-contentOf img r = take (r .bytes) (drop (512 * r .start .0) img)
+contentOf img r = take (r .bytes) (piecesIn img (piecesOf r))
 
 -- the run of a version; an absent one has none
 unfoldable pub runOf : Version → Run

@@ -5,6 +5,7 @@ pub mod Sound
 pub mod Make
 pub mod Reading
 pub mod SoundLaws
+pub mod PieceLaws
 pub mod FileLaws
 pub mod BitmapLaws
 pub mod BlankLaws

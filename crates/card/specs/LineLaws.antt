@@ -22,11 +22,12 @@ use Rattle.entries.specs.declared.Run.{Run}
 use Rattle.entries.specs.declared.Version.{Version}
 use Rattle.entries.specs.declared.Version.the-variants.{Absent, Present}
 use Rattle.entries.specs.Entries.{shown, isAbsent, nameBytes, sectorsFor, runOk}
-use Rattle.entries.specs.PassLaws.{run-room, run-is}
+use Rattle.entries.specs.PassLaws.{run-holds, run-room, run-is}
 use Rattle.directory.specs.Directory.{entriesOf}
 use Rattle.directory.specs.DirectoryLaws.{placeOf, entry-part, entries-lt}
 use Rattle.card.specs.declared.Line.{Line}
 use Rattle.card.specs.Files.{consFile, filesOf, runOf, runAt, contentOf, noLine}
+use Rattle.card.specs.PieceLaws.{content-run}
 use Rattle.card.specs.CoverLaws.{RunsOk}
 
 -- 1 where an entry shows a file, else 0
@@ -107,10 +108,9 @@ module _ (tab : List ℕ) (es : List (List ℕ)) (j : ℕ) (h : length es ≤ j)
 -- ---- what get asks
 
 -- the part of an image that holds a run's content
-pub content-lent : (img out : List ℕ) (r : Run) {x : List ℕ} → x ≡ splice out 0 (take (512 * r .start .0 + r .bytes - 512 * r .start .0) (drop (512 * r .start .0) img))
-    → x ≡ splice out 0 (contentOf img r)
-unfolding contentOf
-content-lent img out r e = let z : 512 * r .start .0 + r .bytes - 512 * r .start .0 ≡ r .bytes = omega arith in rw z at e
+pub content-lent : (img out : List ℕ) (r : Run) {x : List ℕ} → r .bytes ≤ 512 * r .sectors
+    → x ≡ splice out 0 (take (512 * r .start .0 + r .bytes - 512 * r .start .0) (drop (512 * r .start .0) img)) → x ≡ splice out 0 (contentOf img r)
+content-lent img out r h e = let z : 512 * r .start .0 + r .bytes - 512 * r .start .0 ≡ r .bytes = omega arith in rw (content-run img r h) (rw z at e)
 
 -- a search finds an entry that is there
 first-lt : {A : Type 0} (f : A → Bool) (i : ℕ) (l : List A) (j : ℕ) → firstAt f i l ≡ At j → j < i + length l
@@ -125,17 +125,11 @@ first-lt f i (x ∷ xs) j e = go (f x) e (first-lt f (suc i) xs j)
 pub found-lt : {A : Type 0} (f : A → Bool) (l : List A) (j n : ℕ) {o : Found} → o ≡ firstAt f 0 l → o ≡ At j → length l ≡ n → j < n
 found-lt f l j n e q h = omega (arith, first-lt f 0 l j (sym e ∙ q))
 
--- the bytes of a run that is well formed lie in the image
-content-room : (g : Geo) (r : Run) → runOk g r ≡ true → 512 * r .start .0 + r .bytes ≤ 512 * g .s
-unfolding runOk sectorsFor
-content-room g r ok =
-    let e : r .sectors ≡ (r .bytes + 511) / 512 =
-    eqb-true _ _ (both (eqb (r .sectors) ((r .bytes + 511) / 512)) (cond (isZero (r .sectors)) (isZero (r .start .0)) (leb (gF g) (r .start .0) && leb (r .start .0 + r .sectors) (g .s) && inPage (r .start .0) (r .sectors))) ok .0) in
-    omega (arith, run-room g r (run-is g r ok))
-
+-- the bytes of a run that is well formed lie in its sectors, and in the image
 pub room-here : (g : Geo) (tab img : List ℕ) (j : ℕ) (r : Run) → RunsOk g tab (entriesOf g (sec img)) → j < 4 * g .d → length img ≡ 512 * g .s → r ≡ runAt g tab img j
-    → 512 * r .start .0 + r .bytes ≤ length img
+    → (512 * r .start .0 + r .bytes ≤ length img) × (r .bytes ≤ 512 * r .sectors)
 unfolding runAt
 room-here g tab img j r runs h l e =
     let ok : runOk g r ≡ true = rw e (runs j (entries-lt g img j h)) in
-    omega (arith, content-room g r ok)
+    let R = run-is g r ok in
+    (omega (arith, run-holds g r R, run-room g r R), run-holds g r R)

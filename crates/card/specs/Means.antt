@@ -1,7 +1,7 @@
 -- The limits, names and "A card is sound when all of this holds", clause by clause in the paper's order: no test, only words, entries and sectors.
 -- A byte or word past the end of what it is read from counts as 0. Assumes nothing.
 use mathlib.Core.Path.{_≡_}
-use mathlib.Core.List.{List, []}
+use mathlib.Core.List.{List, [], List·Memᴰ}
 use mathlib.Core.Logic.{_⊎_, _≢_, _↔_}
 use Prim.Native.Nat.{ℕ, _+_, _*_, _/_, _≤_, _<_}
 use lib.ListN.{length, getD}
@@ -11,13 +11,12 @@ use Rattle.counts.specs.declared.Geo.{Geo}
 use Rattle.counts.specs.declared.Stamp.{Stamp}
 use Rattle.counts.specs.Geometry.{gN, gP, gF, geoOf, countOf, tableOf}
 use Rattle.counts.specs.Stamps.{stampOf}
-use Rattle.entries.specs.declared.Run.{Run}
-use Rattle.entries.specs.declared.Version.the-variants.{Absent, Present}
-use Rattle.entries.specs.Entries.{nameBytes, nameOf, shownBytes, shown}
+use Rattle.entries.specs.declared.Version.the-variants.{Absent}
+use Rattle.entries.specs.Entries.{nameBytes, nameOf, shownBytes, shown, entryRest, Piece, piecesOf}
 use Rattle.directory.specs.Directory.{entriesOf}
 use Rattle.apages.specs.Bits.{bitAt}
 use Rattle.apages.specs.Index.{groupOf, indexIn, pageAt}
-use Rattle.card.specs.Files.{runOf}
+use Rattle.card.specs.Files.{InPiece, FileHolds, runOf}
 
 -- "S may reach 65,536"; "T table sectors, 1 to 512; .. D directory sectors, 1 to 64"; "F = T + 2 + 2P + D"; "S must be at least F + 1"
 pub record InLimits (g : Geo) : Type 0 where
@@ -96,17 +95,17 @@ pub record Named (p : List ℕ) : Type 0 where
 abbrev pub ShowsFile : List ℕ → List ℕ → Type 0
 ShowsFile tab p = shown tab p ≢ Absent
 
--- a file that an entry shows "lies inside the data"
-abbrev pub Inside : Geo → List ℕ → List ℕ → Type 0
-Inside g tab p = (r : Run) → shown tab p ≡ Present r → 1 ≤ r .sectors → (gF g ≤ r .start .0) × (r .start .0 + r .sectors ≤ g .s)
-
 -- the file that an entry shows holds sector n; an absent one holds none
 abbrev pub Holds : List ℕ → List ℕ → ℕ → Type 0
-Holds tab p n = (runOf (shown tab p) .start .0 ≤ n) × (n < runOf (shown tab p) .start .0 + runOf (shown tab p) .sectors)
+Holds tab p n = FileHolds (runOf (shown tab p)) n
 
--- the pages "cover sectors 4,096p to 4,096p + 4,095, and no run crosses out of one": all sectors of the file have one page
+-- a file that an entry shows "lies inside the data": all sectors that it holds do
+abbrev pub Inside : Geo → List ℕ → List ℕ → Type 0
+Inside g tab p = (n : ℕ) → Holds tab p n → (gF g ≤ n) × (n < g .s)
+
+-- the pages "cover sectors 4,096p to 4,096p + 4,095, and no run crosses out of one": all sectors of a piece have one page
 abbrev pub OnePage : List ℕ → List ℕ → Type 0
-OnePage tab p = (m n : ℕ) → Holds tab p m → Holds tab p n → m / 4096 ≡ n / 4096
+OnePage tab p = (q : Piece) → List·Memᴰ q (piecesOf (runOf (shown tab p))) → (m n : ℕ) → InPiece q m → InPiece q n → m / 4096 ≡ n / 4096
 
 -- some entry's file holds it
 abbrev pub Held : Geo → List ℕ → List ℕ → ℕ → Type 0
@@ -157,7 +156,7 @@ pub record View (g : Geo) (tab img : List ℕ) : Type 0 where
   pub oneFile : OneFile g tab img
   pub bytes : Bytes g tab img
   pub indexRest : ZerosFrom (16 * gP g) (indexIn g (sec img))
-  pub entryRest : Each g img (ZerosFrom 76)
+  pub entryRest : Each g img (λ p. ZerosFrom 0 (entryRest p))
 
 -- ---- "A card is sound when all of this holds", of an image of the right shape
 
@@ -202,4 +201,4 @@ pub record Sound (img : List ℕ) : Type 0 where
   -- "The words named above as zero are [judged]": the rest of sector 0, of the index and of each entry
   pub headRest : ZerosFrom 16 (sec img 0)
   pub indexRest : ZerosFrom (16 * gP (G img)) (indexIn (G img) (sec img))
-  pub entryRest : Each (G img) img (ZerosFrom 76)
+  pub entryRest : Each (G img) img (λ p. ZerosFrom 0 (entryRest p))

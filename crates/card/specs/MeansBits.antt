@@ -18,8 +18,6 @@ use Rattle.sectors.specs.Sectors.{sec}
 use Rattle.counts.specs.declared.Geo.{Geo}
 use Rattle.counts.specs.Geometry.{gP, gF, geoOk}
 use Rattle.counts.specs.GeoLaws.{Limits, limits}
-use Rattle.entries.specs.declared.Version.{Version}
-use Rattle.entries.specs.declared.Version.the-variants.{Absent, Present}
 use Rattle.entries.specs.Entries.{shown}
 use Rattle.directory.specs.Directory.{entriesOf}
 use Rattle.apages.specs.Bits.{bitAt, bitsOf}
@@ -28,6 +26,7 @@ use Rattle.apages.specs.Runs.{wanted, bitsOk, isFull, bytesToS, pageOk}
 use Rattle.apages.specs.Index.{pageAt, pageIn}
 use Rattle.apages.specs.MapLaws.{Wide, map-length, map-byte, map-bit}
 use Rattle.card.specs.Files.{filesOf, cover, runOf}
+use Rattle.card.specs.PieceLaws.{holds-run}
 use Rattle.card.specs.CoverLaws.{cover-none, cover-entry}
 use Rattle.card.specs.BitmapLaws.{InData, in-data, wanted-in, wanted-out, page-bits}
 use Rattle.card.specs.PageIs.{bits-page}
@@ -46,10 +45,13 @@ module _ (tab : List ℕ) where
   share-is : (p : List ℕ) (n : ℕ) → (Holds tab p n × (share p n ≡ 1)) ⊎ ((¬ Holds tab p n) × (share p n ≡ 0))
   share-is p n = go (place (runOf (shown tab p) .start .0) (runOf (shown tab p) .sectors) n)
     where
+      in-run : Holds tab p n → (runOf (shown tab p) .start .0 ≤ n) × (n < runOf (shown tab p) .start .0 + runOf (shown tab p) .sectors)
+      in-run h = holds-run (runOf (shown tab p)) n .0 h
+
       go : Where (runOf (shown tab p) .start .0) (runOf (shown tab p) .sectors) n → (Holds tab p n × (share p n ≡ 1)) ⊎ ((¬ Holds tab p n) × (share p n ≡ 0))
-      go (inl w) = inr (λ h. omega (arith, h .0, w .0), w .1)
-      go (inr (inl w)) = inl ((w .0, w .1), w .2)
-      go (inr (inr w)) = inr (λ h. omega (arith, h .1, w .1), w .2)
+      go (inl w) = inr (λ h. omega (arith, in-run h .0, w .0), w .1)
+      go (inr (inl w)) = inl (holds-run (runOf (shown tab p)) n .1 (w .0, w .1), w .2)
+      go (inr (inr w)) = inr (λ h. omega (arith, in-run h .1, w .1), w .2)
 
   some-next : (p : List ℕ) (es : List (List ℕ)) (n : ℕ) → Some es n → Some (p ∷ es) n
   some-next p es n (i, l, q) = (suc i, omega arith, q)
@@ -111,13 +113,7 @@ module _ (g : Geo) (tab img : List ℕ) (ok : geoOk g ≡ true) (wide : Wide g t
 
   -- a file holds sectors of the data only
   holds-data : (n i : ℕ) → i < length es → Holds tab (getD es i []) n → InData g n
-  holds-data n i l h = go (shown tab (getD es i [])) refl
-    where
-      go : (v : Version) → shown tab (getD es i []) ≡ v → InData g n
-      go Absent e = let (a, b) : (0 ≤ n) × (n < 0 + 0) = (unfold runOf in (rw e at h)) in absurd (omega arith)
-      go (Present r) e =
-          let (a, b) : (r .start .0 ≤ n) × (n < r .start .0 + r .sectors) = (unfold runOf in (rw e at h)) in
-          let (x, y) = inside i l r e (omega arith) in (omega arith, omega arith)
+  holds-data n i l h = inside i l n h
 
   bit-is : pageOk g held page ≡ true → (n : ℕ) → n < 4096 * gP g → bitAt page n ≡ wanted g held n
   bit-is h n l = page-bits g held page (omega (arith, long, L .covered)) h n (omega (arith, long))

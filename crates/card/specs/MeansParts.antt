@@ -1,7 +1,7 @@
 -- What the tests of limits, names, stamps, tables, versions and entries mean: each holds exactly when its clauses do. Assumes nothing.
 use mathlib.Core.Path.{_≡_, refl, _∙_}
 use mathlib.Core.Bool.{Bool, true, false, cond, _&&_, _||_}
-use mathlib.Core.List.{List}
+use mathlib.Core.List.{List, List·Memᴰ·head}
 use mathlib.Core.Logic.{_⊎_, inl, inr, ⊎-elim, _≢_, _↔_}
 use Prim.Native.Nat.{ℕ, _+_, _-_, _/_, _%_, _≤_, _<_}
 use native.Mathlib.Omega.{arith}
@@ -23,11 +23,12 @@ use Rattle.counts.specs.Stamps.{maxTx, wordMax, stampOf, alive, stampOk, deadBe
 use Rattle.entries.specs.declared.Run.{Run}
 use Rattle.entries.specs.declared.Version.{Version}
 use Rattle.entries.specs.declared.Version.the-variants.{Absent, Present}
-use Rattle.entries.specs.Entries.{versionOf, shownBytes, shown, isAbsent, goodByte, goodName, nameBytes, nameOf, nameOk, sectorsFor, runOk, versionOk, entryOk}
-use Rattle.entries.specs.PassLaws.{passes, passes-intro, good-name, run-is, shown-run}
+use Rattle.entries.specs.Entries.{versionOf, entryRest, piecesOf, shownBytes, shown, isAbsent, goodByte, goodName, nameBytes, nameOf, nameOk, sectorsFor, runOk, versionOk, entryOk}
+use Rattle.entries.specs.PassLaws.{passes, passes-intro, good-name, run-text, run-is, shown-run}
 use Rattle.directory.specs.NameLaws.{is-present, present-is}
-use Rattle.card.specs.Files.{runOf}
-use Rattle.card.specs.Means.{InLimits, GoodBytes, GoodName, ZerosFrom, Ranged, DeadBelow, WellFormed, Named, Inside, OnePage}
+use Rattle.card.specs.Files.{FileHolds, runOf}
+use Rattle.card.specs.PieceLaws.{holds-run}
+use Rattle.card.specs.Means.{InLimits, GoodBytes, GoodName, ZerosFrom, Ranged, DeadBelow, WellFormed, Named, Holds, Inside, OnePage}
 
 -- ---- the limits
 
@@ -141,22 +142,51 @@ module _ (g : Geo) (C : ℕ) (tab : List ℕ) where
 not-zero : (n : ℕ) → eqb n 0 ≡ false → 1 ≤ n
 not-zero n e = let o : ¬ (n ≡ 0) = eqb-false n 0 e in omega arith
 
--- the run of a shown file lies in one page
-page-one : (g : Geo) (tab p : List ℕ) → versionOk g (shownBytes tab p) ≡ true → OnePage tab p
-page-one g tab p h = go (shown tab p) refl
+-- of a file in one run: that run lies inside the data
+inside-text : (g : Geo) (tab p : List ℕ)
+    → Inside g tab p ↔ ((r : Run) → shown tab p ≡ Present r → 1 ≤ r .sectors → (gF g ≤ r .start .0) × (r .start .0 + r .sectors ≤ g .s))
+unfolding runOf
+inside-text g tab p = (
+  λ h r e l.
+      let (a, b) = h (r .start .0) (there r e (r .start .0) (omega arith) (omega arith)) in
+      let (c, d) = h (r .start .0 + r .sectors - 1) (there r e (r .start .0 + r .sectors - 1) (omega arith) (omega arith)) in (a, omega arith),
+  λ h n q. go (shown tab p) h n (holds-run (runOf (shown tab p)) n .0 q),
+)
   where
-    go : (v : Version) → shown tab p ≡ v → OnePage tab p
-    go Absent e m n a b = let (x, y) : (0 ≤ m) × (m < 0 + 0) = (unfold runOf in (rw e at a)) in absurd (omega arith)
-    go (Present r) e m n a b =
-        let (x, y) : (r .start .0 ≤ m) × (m < r .start .0 + r .sectors) = (unfold runOf in (rw e at a)) in
-        let (z, w) : (r .start .0 ≤ n) × (n < r .start .0 + r .sectors) = (unfold runOf in (rw e at b)) in
-        omega (arith, shown-run g tab p h e .page)
+    there : (r : Run) → shown tab p ≡ Present r → (n : ℕ) → r .start .0 ≤ n → n < r .start .0 + r .sectors → FileHolds (runOf (shown tab p)) n
+    there r e n lo hi = rw e (holds-run r n .1 (lo, hi))
+
+    go : (v : Version) → ((r : Run) → v ≡ Present r → 1 ≤ r .sectors → (gF g ≤ r .start .0) × (r .start .0 + r .sectors ≤ g .s)) → (n : ℕ)
+        → (runOf v .start .0 ≤ n) × (n < runOf v .start .0 + runOf v .sectors) → (gF g ≤ n) × (n < g .s)
+    go Absent h n (x, y) = absurd (omega arith)
+    go (Present r) h n (x, y) = let w = h r refl (omega arith) in (omega (arith, w .0), omega (arith, w .1))
+
+-- all its sectors have one page
+page-text : (tab p : List ℕ) → OnePage tab p ↔ ((m n : ℕ) → Holds tab p m → Holds tab p n → m / 4096 ≡ n / 4096)
+unfolding piecesOf
+page-text tab p = (
+  λ h m n a b.
+      h (record { at = runOf (shown tab p) .start .0; count = runOf (shown tab p) .sectors }) (List·Memᴰ·head refl) m n (holds-run (runOf (shown tab p)) m .0 a)
+      (holds-run (runOf (shown tab p)) n .0 b),
+  λ h q i m n a b. h m n (q, i, a) (q, i, b),
+)
+
+-- the run of a shown file lies in one page
+page-one : (g : Geo) (tab p : List ℕ) → versionOk g (shownBytes tab p) ≡ true → (m n : ℕ) → Holds tab p m → Holds tab p n → m / 4096 ≡ n / 4096
+unfolding runOf
+page-one g tab p h m n a b = go (shown tab p) refl (holds-run (runOf (shown tab p)) m .0 a) (holds-run (runOf (shown tab p)) n .0 b)
+  where
+    go : (v : Version) → shown tab p ≡ v → (runOf v .start .0 ≤ m) × (m < runOf v .start .0 + runOf v .sectors) → (runOf v .start .0 ≤ n) × (n < runOf v .start .0 + runOf v .sectors)
+        → m / 4096 ≡ n / 4096
+    go Absent e (x, y) u = absurd (omega arith)
+    go (Present r) e (x, y) (z, w) = omega (arith, shown-run g tab p h e .page)
 
 one-page : (tab p : List ℕ) (r : Run) → shown tab p ≡ Present r → 1 ≤ r .sectors → OnePage tab p → r .start .0 % 4096 + r .sectors ≤ 4096
 unfolding runOf
 one-page tab p r e l h =
     let q : r .start .0 / 4096 ≡ (r .start .0 + r .sectors - 1) / 4096 =
-    h (r .start .0) (r .start .0 + r .sectors - 1) (rw e (omega arith, omega arith)) (rw e (omega arith, omega arith)) in
+    page-text tab p .0 h (r .start .0) (r .start .0 + r .sectors - 1) (rw e (holds-run r (r .start .0) .1 (omega arith, omega arith)))
+    (rw e (holds-run r (r .start .0 + r .sectors - 1) .1 (omega arith, omega arith))) in
     omega arith
 
 -- the 16 bytes of the version that an entry shows: well formed, inside the data and in one page
@@ -190,9 +220,9 @@ module _ (g : Geo) (tab p : List ℕ) where
           })
 
   version-ok : WellFormed v → Inside g tab p → OnePage tab p → versionOk g v ≡ true
-  unfolding versionOk runOk sectorsFor shown versionOf
+  unfolding versionOk sectorsFor shown versionOf
   version-ok (inl z) o q = rw (z .0, z .1, z .2, z .3)
-  version-ok (inr S) o q = rw (S .state) (join _ _ (eq-eqb (wordAt v 8) ((wordAt v 12 + 511) / 512) (omega (arith, S .enough, S .noMore))) (go (eqb (wordAt v 8) 0) refl))
+  version-ok (inr S) o q = rw (S .state) (run-text g run ∙ join _ _ (eq-eqb (wordAt v 8) ((wordAt v 12 + 511) / 512) (omega (arith, S .enough, S .noMore))) (go (eqb (wordAt v 8) 0) refl))
     where
       there : versionOf v ≡ Present run
       there = rw (S .state)
@@ -200,7 +230,7 @@ module _ (g : Geo) (tab p : List ℕ) where
       go : (z : Bool) → eqb (wordAt v 8) 0 ≡ z → cond (eqb (wordAt v 8) 0) (eqb (wordAt v 4) 0) (leb (gF g) (wordAt v 4) && leb (wordAt v 4 + wordAt v 8) (g .s) && inPage (wordAt v 4) (wordAt v 8)) ≡ true
       go true e = rw e (eq-eqb _ _ (S .empty (let w : wordAt v 8 ≡ 0 = eqb-true (wordAt v 8) 0 e in omega (arith, S .enough)) .0))
       go false e =
-          let (x, y) = o run there (not-zero (wordAt v 8) e) in
+          let (x, y) = inside-text g tab p .0 o run there (not-zero (wordAt v 8) e) in
           rw e (join _ _ (join _ _ (le-leb _ _ x) (le-leb _ _ y)) (le-leb _ _ (one-page tab p run there (not-zero (wordAt v 8) e) q)))
 
   name-ok : (shown tab p ≢ Absent → Named p) → (isAbsent (shown tab p) || nameOk (wordAt p 8) (nameBytes p)) ≡ true
@@ -235,7 +265,7 @@ module _ (g : Geo) (tab p : List ℕ) where
     pub name : shown tab p ≢ Absent → Named p
     pub inside : Inside g tab p
     pub inPage : OnePage tab p
-    pub rest : ZerosFrom 76 p
+    pub rest : ZerosFrom 0 (entryRest p)
 
   pub entry-means : (bound : ℕ) → (entryOk g bound tab p ≡ true) ↔ EntrySays bound
   entry-means bound = (to, from)
@@ -248,9 +278,9 @@ module _ (g : Geo) (tab p : List ℕ) where
             dead = dead-means bound tab (stampOf p) .0 (P .dead);
             formed = formed (P .wf);
             name = λ o. named (good-name g bound tab p P (is-present _ o));
-            inside = λ r e. shown-run g tab p (P .wf) e .span;
-            inPage = page-one g tab p (P .wf);
-            rest = zeros-mean 76 p .0 (P .zeros);
+            inside = inside-text g tab p .1 (λ r e. shown-run g tab p (P .wf) e .span);
+            inPage = page-text tab p .1 (page-one g tab p (P .wf));
+            rest = zeros-mean 0 (entryRest p) .0 (P .zeros);
           }
 
       from : EntrySays bound → entryOk g bound tab p ≡ true
@@ -259,7 +289,7 @@ module _ (g : Geo) (tab p : List ℕ) where
           (record {
             stamp = stamp-means g (stampOf p) .1 (S .stamp);
             dead = dead-means bound tab (stampOf p) .1 (S .dead);
-            zeros = zeros-mean 76 p .1 (S .rest);
+            zeros = zeros-mean 0 (entryRest p) .1 (S .rest);
             wf = version-ok (S .formed) (S .inside) (S .inPage);
             name = name-ok (S .name);
           })

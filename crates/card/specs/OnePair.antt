@@ -20,6 +20,7 @@ use Rattle.counts.specs.Geometry.{gP, gDir, gF, inPage, geoOk}
 use Rattle.counts.specs.Stamps.{stampOf, stampOk, deadBelow}
 use Rattle.entries.specs.declared.Run.{Run}
 use Rattle.entries.specs.Entries.{sectorsFor, runOk}
+use Rattle.entries.specs.PassLaws.{run-text}
 use Rattle.apages.specs.declared.Index.{Index}
 use Rattle.apages.specs.Bits.{setRun}
 use Rattle.apages.specs.Runs.{allClear, findRun, dataFrom, dataTo, freshPage}
@@ -147,8 +148,7 @@ module _ (g : Geo) (one : gP g ≡ 1) where
 -- a run inside a card of one pair lies in one page
 pub run-today : (g : Geo) (r : Run) → g .s ≤ 4096
     → runOk g r ≡ (eqb (r .sectors) (sectorsFor (r .bytes)) && cond (isZero (r .sectors)) (isZero (r .start .0)) (leb (gF g) (r .start .0) && leb (r .start .0 + r .sectors) (g .s)))
-unfolding runOk
-run-today g r small = go (leb (r .start .0 + r .sectors) (g .s)) refl
+run-today g r small = run-text g r ∙ go (leb (r .start .0 + r .sectors) (g .s)) refl
   where
     go : (b : Bool) → leb (r .start .0 + r .sectors) (g .s) ≡ b
         → (eqb (r .sectors) (sectorsFor (r .bytes)) && cond (isZero (r .sectors)) (isZero (r .start .0)) (leb (gF g) (r .start .0) && leb (r .start .0 + r .sectors) (g .s) && inPage (r .start .0) (r .sectors)))

@@ -19,13 +19,13 @@ use Rattle.apages.specs.RunLaws.{setRun-length, set-run, clear-run}
 use Rattle.apages.specs.Runs.{wanted, bitsOk, isFull, bytesToS, pageOk}
 use Rattle.card.specs.declared.Line.{Line}
 use Rattle.card.specs.BitmapLaws.{InData, in-data, wanted-in, wanted-out, page-bits, page-ok, run-rest, bytes-past}
-use Rattle.card.specs.FileLaws.{in-run, out-run}
-use Rattle.card.specs.Files.{consFile, cover, runOf}
+use Rattle.card.specs.PieceLaws.{in-run, out-run, count-run}
+use Rattle.card.specs.Files.{consFile, holdsAt, cover, runOf}
 
 -- the sectors that a version holds, and those of the files behind it
-pub cover-version : (p : List ℕ) (v : Version) (fs : List Line) (i : ℕ) → cover (consFile p v fs) i ≡ inRun (runOf v .start .0) (runOf v .sectors) i + cover fs i
+pub cover-version : (p : List ℕ) (v : Version) (fs : List Line) (i : ℕ) → cover (consFile p v fs) i ≡ holdsAt (runOf v) i + cover fs i
 unfolding consFile cover runOf
-cover-version p Absent fs i = omega (arith, out-run 0 0 i (λ q. omega (arith, q .1)))
+cover-version p Absent fs i = omega (arith, count-run (runOf Absent) i, out-run 0 0 i (λ q. omega (arith, q .1)))
 cover-version p (Present r) fs i = refl
 
 -- a page depends on how often its sectors are counted

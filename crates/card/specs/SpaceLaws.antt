@@ -21,7 +21,8 @@ use Rattle.apages.specs.Runs.{pageOk, wanted}
 use Rattle.apages.specs.Index.{groupOf, indexIn, shownPage, pageAt, pageIn}
 use Rattle.apages.specs.MapLaws.{Wide, map-length}
 use Rattle.card.specs.BitmapLaws.{InData, in-data, wanted-in, wanted-out, page-bits}
-use Rattle.card.specs.FileLaws.{Within, none, more, files-within, cover-out, in-run, out-run}
+use Rattle.card.specs.PieceLaws.{in-run, out-run, count-run}
+use Rattle.card.specs.FileLaws.{Within, none, more, files-within, cover-out}
 use Rattle.card.specs.SoundLaws.{View, view-page, sound-view, shape-inv}
 use Rattle.card.specs.declared.Line.{Line}
 use Rattle.card.specs.Files.{filesOf, cover, sectorsOf}
@@ -36,7 +37,7 @@ unfolding cover sectorsOf
 cover-total none m h = total-zero m
 cover-total {g} (more {f = f} {fs = fs} r w) m h =
     let a : total (inRun (f .run .start .0) (f .run .sectors)) m ≡ f .run .sectors = total-run (f .run .start .0) (f .run .sectors) m ∙ omega (arith, run-room g (f .run) r) in
-    sym (total-add (inRun (f .run .start .0) (f .run .sectors)) (cover fs) (cover (f ∷ fs)) m (λ i l. refl)) ∙ omega (arith, cover-total w m h)
+    sym (total-add (inRun (f .run .start .0) (f .run .sectors)) (cover fs) (cover (f ∷ fs)) m (λ i l. omega (arith, count-run (f .run) i))) ∙ omega (arith, cover-total w m h)
 
 module _ (g : Geo) (ok : geoOk g ≡ true) (fs : List Line) (p : List ℕ) (wide : length p ≡ 512 * gP g) (within : Within g fs) (page : pageOk g (cover fs) p ≡ true) where
   L : Limits g

@@ -6,7 +6,7 @@ use Prim.Native.Nat.{ℕ, zero, suc, _+_, _≤_, _<_, _^_}
 use native.Mathlib.Omega.{arith}
 use borrow.Author.Tests.{eq-eqb, ne-eqb, le-leb}
 use lib.Dec.{leb, eqb}
-use lib.ListN.{length, drop, getD, set, length-append, length-replicate}
+use lib.ListN.{length, getD, set, length-append, length-replicate}
 use Rattle.words.specs.Lists.{every, isZero, pad}
 use Rattle.words.specs.Bytes.{wordAt, wordBytes}
 use Rattle.words.specs.BoolLaws.{join}
@@ -22,8 +22,8 @@ use Rattle.entries.specs.declared.Run.{Run}
 use Rattle.entries.specs.declared.Version.{Version}
 use Rattle.entries.specs.declared.Version.the-variants.{Absent, Present}
 use Rattle.entries.specs.declared.Entry.{Entry}
-use Rattle.entries.specs.Entries.{versionOf, versionBytes, newOf, oldOf, nameBytes, entryOf, entryBytes, shownBytes, shown, runOk, versionOk, changed}
-use Rattle.entries.specs.PassLaws.{RunIs, run-small, shown-run}
+use Rattle.entries.specs.Entries.{versionOf, versionBytes, newOf, oldOf, nameBytes, entryOf, entryRest, entryBytes, shownBytes, shown, runOk, versionOk, changed}
+use Rattle.entries.specs.PassLaws.{RunIs, run-text, run-small, shown-run}
 use Rattle.entries.specs.CodecLaws.{FitVersion, FitEntry, version-back, entryBytes-length, name-bytes, new-bytes, old-bytes, rest-bytes, stamp-back, size-back}
 
 pub pad-length : (n : ℕ) (l : List ℕ) → length l ≤ n → length (pad n l) ≡ n
@@ -49,8 +49,7 @@ good-fit g Absent L h = tt
 good-fit g (Present r) L h = let (a, b, c) = run-small g r L h in record { start = a; sectors = b; bytes = c }
 
 run-ok : (g : Geo) (r : Run) → RunIs g r → runOk g r ≡ true
-unfolding runOk
-run-ok g r R = join _ _ (eq-eqb _ _ (R .size)) (go (r .sectors) refl)
+run-ok g r R = run-text g r ∙ join _ _ (eq-eqb _ _ (R .size)) (go (r .sectors) refl)
   where
     go : (n : ℕ) → r .sectors ≡ n → cond (eqb (r .sectors) 0) (eqb (r .start .0) 0) (leb (gF g) (r .start .0) && leb (r .start .0 + r .sectors) (g .s) && inPage (r .start .0) (r .sectors)) ≡ true
     go zero e = rw (eq-eqb (r .sectors) 0 e) (eq-eqb _ _ (R .empty e))
@@ -127,7 +126,7 @@ module _ (g : Geo) (L : Limits g) (tab : List ℕ) (own : Stamp) (hc : own .cc .
   pub bytes-name : nameBytes bytes ≡ pad 32 n
   bytes-name = name-bytes entry (entry-fits .name) ∙ (unfold changed in refl)
 
-  pub bytes-zeros : every isZero (drop 76 bytes) ≡ true
+  pub bytes-zeros : every isZero (entryRest bytes) ≡ true
   bytes-zeros = ap (λ (x : List ℕ). every isZero x) (rest-bytes entry (entry-fits .name)) ∙ zeros-zero 52
 
   -- in the cut view: as before

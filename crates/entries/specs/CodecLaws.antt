@@ -15,7 +15,7 @@ use Rattle.entries.specs.declared.Run.{Run}
 use Rattle.entries.specs.declared.Version.{Version}
 use Rattle.entries.specs.declared.Version.the-variants.{Absent, Present}
 use Rattle.entries.specs.declared.Entry.{Entry}
-use Rattle.entries.specs.Entries.{versionOf, versionBytes, newOf, oldOf, nameBytes, entryOf, entryBytes}
+use Rattle.entries.specs.Entries.{versionOf, versionBytes, newOf, oldOf, nameBytes, entryOf, entryRest, entryBytes}
 
 -- what the types say of a run, a version and an entry
 pub record FitRun (r : Run) : Type 0 where
@@ -99,8 +99,8 @@ module _ (e : Entry) (name : length (e .name) ≡ 32) where
       let w : entryBytes e ≡ toOld ++ (versionBytes (e .old) ++ replicate 52 0) = simp append-assoc in
       rw w (middle toOld (versionBytes (e .old)) _ 60 16 toOld-length (versionBytes-length (e .old)))
 
-  pub rest-bytes : drop 76 (entryBytes e) ≡ replicate 52 0
-  unfolding entryBytes
+  pub rest-bytes : entryRest (entryBytes e) ≡ replicate 52 0
+  unfolding entryRest entryBytes
   rest-bytes = drop-at toEnd (replicate 52 0) 76 toEnd-length
 
 module _ (e : Entry) (f : FitEntry e) where

@@ -1,6 +1,6 @@
 -- "An entry is 32 words": its codec, what it shows, and when it is well formed. An entry is its 128 bytes. Assumes nothing.
 use mathlib.Core.Bool.{Bool, true, false, cond, _&&_, _||_}
-use mathlib.Core.List.{List, _++_}
+use mathlib.Core.List.{List, [], _∷_, _++_}
 use Prim.Native.Nat.{ℕ, _+_, _/_}
 use lib.ListN.{length, take, drop, replicate}
 use lib.Dec.{leb, eqb}
@@ -42,6 +42,10 @@ nameBytes p = take 32 (drop 12 p)
 unfoldable pub entryOf : List ℕ → Entry
 entryOf p = record { stamp = stampOf p; size = wordAt p 8; name = nameBytes p; new = versionOf (newOf p); old = versionOf (oldOf p) }
 
+-- the bytes of an entry behind its versions, "13 zero words": they must be 0
+unfoldable pub entryRest : List ℕ → List ℕ
+entryRest p = drop 76 p
+
 -- the 128 bytes of an entry, "13 zero words" at its end
 unfoldable pub entryBytes : Entry → List ℕ
 entryBytes e =
@@ -78,17 +82,30 @@ nameOf p = take (wordAt p 8) (nameBytes p)
 unfoldable pub nameOk : ℕ → List ℕ → Bool
 nameOk n b = leb 1 n && leb n 32 && every goodByte (take n b) && every isZero (drop n b)
 
+-- ---- the sectors of a file
+
+-- a piece of a file: neighbouring sectors, the first of them and how many
+pub record Piece : Type 0 where
+  pub at : ℕ
+  pub count : ℕ
+
+-- the pieces that a file's sectors are, in the order of its content: one run
+unfoldable pub piecesOf : Run → List Piece
+piecesOf r = record { at = r .start .0; count = r .sectors } ∷ []
+
 -- ---- well formed
 
 -- "Sectors = bytes/512 rounded up"
 unfoldable pub sectorsFor : ℕ → ℕ
 sectorsFor b = (b + 511) / 512
 
--- "a file of 0 bytes has start 0 and sectors 0"; shown present files "lie inside the data", and "no run crosses out of" its page
+-- shown present files "lie inside the data", and "no run crosses out of" its page: asked of each piece
+unfoldable pub pieceOk : Geo → Piece → Bool
+pieceOk g q = leb (gF g) (q .at) && leb (q .at + q .count) (g .s) && inPage (q .at) (q .count)
+
+-- "a file of 0 bytes has start 0 and sectors 0"
 unfoldable pub runOk : Geo → Run → Bool
-runOk g r =
-    eqb (r .sectors) (sectorsFor (r .bytes))
-    && cond (isZero (r .sectors)) (isZero (r .start .0)) (leb (gF g) (r .start .0) && leb (r .start .0 + r .sectors) (g .s) && inPage (r .start .0) (r .sectors))
+runOk g r = eqb (r .sectors) (sectorsFor (r .bytes)) && cond (isZero (r .sectors)) (isZero (r .start .0)) (every (pieceOk g) (piecesOf r))
 
 -- the 16 bytes of a version are well formed
 unfoldable pub versionOk : Geo → List ℕ → Bool
@@ -99,7 +116,7 @@ versionOk g v =
 -- an entry passes in a view: its stamp, the zero words, the shown version, and the name of a shown present file
 unfoldable pub entryOk : Geo → ℕ → List ℕ → List ℕ → Bool
 entryOk g bound tab p =
-    stampOk g (stampOf p) && (deadBelow bound tab (stampOf p) && every isZero (drop 76 p) && versionOk g (shownBytes tab p)
+    stampOk g (stampOf p) && (deadBelow bound tab (stampOf p) && every isZero (entryRest p) && versionOk g (shownBytes tab p)
     && (isAbsent (shown tab p) || nameOk (wordAt p 8) (nameBytes p)))
 
 -- ---- changing an entry

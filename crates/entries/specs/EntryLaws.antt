@@ -16,7 +16,7 @@ use Rattle.counts.specs.declared.Standing.{Standing}
 use Rattle.counts.specs.Stamps.{stampOf, alive, showing, stampOk, deadBelow, standing, becomesOld}
 use Rattle.entries.specs.declared.Version.{Version}
 use Rattle.entries.specs.declared.Entry.{Entry}
-use Rattle.entries.specs.Entries.{newOf, oldOf, shownBytes, shown, isAbsent, nameBytes, nameOf, goodByte, nameOk, versionOk, entryOk, changed}
+use Rattle.entries.specs.Entries.{newOf, oldOf, entryRest, shownBytes, shown, isAbsent, nameBytes, nameOf, goodByte, nameOk, versionOk, entryOk, changed}
 
 -- an entry changed by how its stamp stood to the session's own
 unfoldable pub changedAs : Standing → Stamp → Entry → List ℕ → Version → Entry
@@ -88,5 +88,5 @@ pub entry-here : (g : Geo) (bound : ℕ) (tab p : List ℕ) {s : Stamp} {n : ℕ
     → below ≡ deadBelow bound tab s → rest ≡ every isZero (take (length p - 76) (drop 76 p)) → version ≡ versionOk g (shownBytes tab p) → x ≡ shown tab p
     → absent ≡ isAbsent x → n ≡ wordAt p 8 → name ≡ nameOk n (take 32 (drop 12 p)) → stamp ≡ stampOk g s
     → (stamp && (below && rest && version && (absent || name))) ≡ entryOk g bound tab p
-unfolding entryOk nameBytes
+unfolding entryOk nameBytes entryRest
 entry-here g bound tab p e₀ e₁ e₂ e₃ e₄ e₅ e₆ e₇ e₈ = rw (e₈, e₁, e₂, e₃, e₅, e₇, e₀, e₄, e₆, rest-part p 76)

@@ -18,12 +18,12 @@ use Rattle.counts.specs.GeoLaws.{Limits}
 use Rattle.counts.specs.Stamps.{stampOf, stampOk, deadBelow}
 use Rattle.entries.specs.declared.Run.{Run}
 use Rattle.entries.specs.declared.Version.the-variants.{Absent, Present}
-use Rattle.entries.specs.Entries.{versionOf, nameBytes, shownBytes, shown, isAbsent, goodByte, nameOf, nameOk, sectorsFor, runOk, versionOk, entryOk, goodName}
+use Rattle.entries.specs.Entries.{versionOf, entryRest, piecesOf, pieceOk, nameBytes, shownBytes, shown, isAbsent, goodByte, nameOf, nameOk, sectorsFor, runOk, versionOk, entryOk, goodName}
 
 pub record Passes (g : Geo) (bound : ℕ) (tab p : List ℕ) : Type 0 where
   pub stamp : stampOk g (stampOf p) ≡ true
   pub dead : deadBelow bound tab (stampOf p) ≡ true
-  pub zeros : every isZero (drop 76 p) ≡ true
+  pub zeros : every isZero (entryRest p) ≡ true
   pub wf : versionOk g (shownBytes tab p) ≡ true
   pub name : (isAbsent (shown tab p) || nameOk (wordAt p 8) (nameBytes p)) ≡ true
 
@@ -66,6 +66,20 @@ name-padded p n h l q =
 
 -- ---- a run
 
+and-true : (b : Bool) → (b && true) ≡ b
+and-true true = refl
+and-true false = refl
+
+-- a file in one run: what is asked of its pieces, and the whole rule, by its start and sectors
+pub pieces-text : (g : Geo) (r : Run) → every (pieceOk g) (piecesOf r) ≡ (leb (gF g) (r .start .0) && leb (r .start .0 + r .sectors) (g .s) && inPage (r .start .0) (r .sectors))
+unfolding every piecesOf pieceOk
+pieces-text g r = and-true (leb (gF g) (r .start .0) && leb (r .start .0 + r .sectors) (g .s) && inPage (r .start .0) (r .sectors))
+
+pub run-text : (g : Geo) (r : Run)
+    → runOk g r ≡ (eqb (r .sectors) (sectorsFor (r .bytes)) && cond (isZero (r .sectors)) (isZero (r .start .0)) (leb (gF g) (r .start .0) && leb (r .start .0 + r .sectors) (g .s) && inPage (r .start .0) (r .sectors)))
+unfolding runOk
+run-text g r = rw (pieces-text g r)
+
 pub record RunIs (g : Geo) (r : Run) : Type 0 where
   pub size : r .sectors ≡ sectorsFor (r .bytes)
   pub span : 1 ≤ r .sectors → (gF g ≤ r .start .0) × (r .start .0 + r .sectors ≤ g .s)
@@ -73,9 +87,8 @@ pub record RunIs (g : Geo) (r : Run) : Type 0 where
   pub page : r .start .0 % 4096 + r .sectors ≤ 4096
 
 pub run-is : (g : Geo) (r : Run) → runOk g r ≡ true → RunIs g r
-unfolding runOk
 run-is g r h =
-    let (a, b) = both (eqb (r .sectors) (sectorsFor (r .bytes))) _ h in
+    let (a, b) = both (eqb (r .sectors) (sectorsFor (r .bytes))) _ (sym (run-text g r) ∙ h) in
     go (eqb-true _ _ a) (eqb (r .sectors) 0) refl b
   where
     go : r .sectors ≡ sectorsFor (r .bytes) → (z : Bool) → eqb (r .sectors) 0 ≡ z

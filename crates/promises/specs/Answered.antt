@@ -19,12 +19,12 @@ use Rattle.counts.specs.GeoLaws.{Limits, table-same}
 use Rattle.entries.specs.declared.Version.{Version}
 use Rattle.entries.specs.declared.Version.the-variants.{Absent, Present}
 use Rattle.entries.specs.Entries.{shown, nameOf, sectorsFor}
-use Rattle.entries.specs.PassLaws.{RunIs}
 use Rattle.entries.specs.ChangeLaws.{bytes-size, bytes-name, now-shown, pad-length}
 use Rattle.directory.specs.Directory.{entriesOf, spotOf}
 use Rattle.card.specs.declared.Line.{Line}
-use Rattle.card.specs.Files.{consFile, filesOf, cover, contentOf}
-use Rattle.card.specs.FileLaws.{files-append, Within, files-within, Holds, held-data, held-cover, cover-append, content-same}
+use Rattle.card.specs.Files.{FileHolds, consFile, filesOf, cover, contentOf}
+use Rattle.card.specs.PieceLaws.{holds-run, content-same, content-run}
+use Rattle.card.specs.FileLaws.{files-append, Within, files-within, Holds, held-data, held-cover, cover-append}
 use Rattle.card.specs.SoundLaws.{View}
 use Rattle.session.specs.declared.Opened.{Opened}
 use Rattle.session.specs.declared.Session.the-variants.{Open}
@@ -177,13 +177,16 @@ module _ (s : Opened) (j a k : ℕ) (v : Version) (work n d : List ℕ) (k₀ : 
         now = list-now ∙ ap (λ (l : List Item). listOf tp work (take j es) ++ l) (list-present tp after x (drop (suc j) es) (new-shown ∙ e) ∙ rw (new-name, text, keep-after));
       }
     where
-      whole : RunIs g (putRun a d) → contentOf after (putRun a d) ≡ contentOf (putContent a k d work) (putRun a d)
-      whole r =
-          content-same g after (putContent a k d work) (putRun a d) r
-          (λ i lo hi. data-put s j a k v work n d k₀ R i (R .inside i (unfold putRun in lo) (in-run i hi)))
-        where
-          in-run : (i : ℕ) → i < putRun a d .start .0 + putRun a d .sectors → i < a + k
-          in-run i h = rw q (unfold putRun in h)
+      in-run : (i : ℕ) → FileHolds (putRun a d) i → (a ≤ i) × (i < a + k)
+      in-run i h = rw q (unfold putRun in holds-run (putRun a d) i .0 h)
+
+      whole : contentOf after (putRun a d) ≡ contentOf (putContent a k d work) (putRun a d)
+      whole =
+          content-same after (putContent a k d work) (putRun a d)
+          (λ i h. data-put s j a k v work n d k₀ R i (R .inside i (in-run i h .0) (in-run i h .1)))
+
+      there : contentOf (putContent a k d work) (putRun a d) ≡ take (length d) (drop (512 * a) (putContent a k d work))
+      there = unfold putRun in content-run (putContent a k d work) (putRun a d) (rw (← q) (R .enough))
 
       text : contentOf after (putRun a d) ≡ d
-      text = whole (rw e at (R .good)) ∙ (unfold contentOf putRun in put-back a k (g .s) d work (R .fit .sized) (R .fits) (R .enough))
+      text = whole ∙ there ∙ put-back a k (g .s) d work (R .fit .sized) (R .fits) (R .enough)

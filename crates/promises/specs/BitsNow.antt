@@ -1,7 +1,9 @@
 -- The page that the present view shows after one change of an entry, bit by bit. Assumes nothing.
 use mathlib.Core.Path.{_≡_, sym, ap, _∙_}
+use mathlib.Core.Bool.{false}
 use mathlib.Core.List.{List, [], _∷_}
-use Prim.Native.Nat.{ℕ, zero, suc, _+_, _*_, _≤_, _<_}
+use mathlib.Core.Logic.{_⊎_, inl, inr, ⊎-elim, _↔_}
+use Prim.Native.Nat.{ℕ, zero, suc, _+_, _*_, _/_, _%_, _≤_, _<_}
 use native.Mathlib.Omega.{arith}
 use lib.Dec.{lit<}
 use lib.ListN.{length, getD, set}
@@ -16,8 +18,8 @@ use Rattle.directory.specs.Directory.{entriesOf}
 use Rattle.apages.specs.Bits.{bitAt, setRun}
 use Rattle.apages.specs.Index.{pageIn}
 use Rattle.apages.specs.RunLaws.{setRun-length, run-in, run-out}
-use Rattle.card.specs.Files.{filesOf, cover, runOf, runAt}
-use Rattle.card.specs.FileLaws.{in-run}
+use Rattle.card.specs.Files.{FileHolds, filesOf, cover, runOf, runAt}
+use Rattle.card.specs.PieceLaws.{holds-run, holds-count}
 use Rattle.card.specs.RuleLaws.{cover-version}
 use Rattle.card.specs.SpaceLaws.{page-wide}
 use Rattle.session.specs.declared.Opened.{Opened}
@@ -36,13 +38,43 @@ InRun a k i = (a ≤ i) × (i < a + k)
 abbrev pub earlierRun : Opened → List ℕ → ℕ → Run
 earlierRun s work j = runAt (s .geo) (presentTable s (sec work)) work j
 
--- a sector of entry j's run is held by a file of the view
-entry-held : (tab : List ℕ) (ps : List (List ℕ)) (j i : ℕ) → j < length ps
-    → InRun (runOf (shown tab (getD ps j [])) .start .0) (runOf (shown tab (getD ps j [])) .sectors) i → 1 ≤ cover (filesOf tab ps) i
+-- a bit of page q changes: the version holds a sector in it, or the file held one before
+abbrev pub Changes : Opened → List ℕ → ℕ → Version → ℕ → Type 0
+Changes s work j v q = (i : ℕ) × (FileHolds (runOf v) i ⊎ FileHolds (earlierRun s work j) i) × (q ≡ i / 4096)
+
+earlier-is : (s : Opened) (work : List ℕ) (j : ℕ) → s .worn ≡ false → earlierRun s work j ≡ oldRun s j work
+unfolding runAt
+earlier-is s work j live = rw (present-live s (sec work) live)
+
+-- the version in one run of k sectors from a on, and the file's earlier run
+module _ (s : Opened) (work : List ℕ) (j a k : ℕ) (v : Version) (live : s .worn ≡ false) (is : (runOf v .start .0 ≡ a) × (runOf v .sectors ≡ k)) where
+  pub holds-new : (i : ℕ) → FileHolds (runOf v) i ↔ InRun a k i
+  holds-new i = (
+    λ h. let (lo, hi) = holds-run (runOf v) i .0 h in (omega (arith, is .0), omega (arith, is .0, is .1)),
+    λ h. holds-run (runOf v) i .1 (omega (arith, is .0, h .0), omega (arith, is .0, is .1, h .1)),
+  )
+
+  pub holds-old : (i : ℕ) → FileHolds (earlierRun s work j) i ↔ InRun (oldRun s j work .start .0) (oldRun s j work .sectors) i
+  holds-old i = rw (earlier-is s work j live) (holds-run (oldRun s j work) i)
+
+  -- the pages in which a bit changes, by the runs
+  abbrev InRuns : ℕ → Type 0
+  InRuns q = ((0 < k) × (q ≡ a / 4096)) ⊎ ((0 < oldRun s j work .sectors) × (q ≡ oldRun s j work .start .0 / 4096))
+
+  pub changes-runs : (q : ℕ) → a % 4096 + k ≤ 4096 → oldRun s j work .start .0 % 4096 + oldRun s j work .sectors ≤ 4096 → Changes s work j v q → InRuns q
+  changes-runs q x y (i, c, e) =
+      ⊎-elim (λ h. let (lo, hi) = holds-new i .0 h in inl (omega arith, omega arith)) (λ h. let (lo, hi) = holds-old i .0 h in inr (omega arith, omega arith)) c
+
+  pub runs-change : (q : ℕ) → InRuns q → Changes s work j v q
+  runs-change q w =
+      ⊎-elim (λ h. (a, inl (holds-new a .1 (omega arith, omega (arith, h .0))), h .1))
+      (λ h. (oldRun s j work .start .0, inr (holds-old (oldRun s j work .start .0) .1 (omega arith, omega (arith, h .0))), h .1)) w
+
+-- a sector of entry j's file is held by a file of the view
+entry-held : (tab : List ℕ) (ps : List (List ℕ)) (j i : ℕ) → j < length ps → FileHolds (runOf (shown tab (getD ps j []))) i → 1 ≤ cover (filesOf tab ps) i
 unfolding filesOf
 entry-held tab [] j i h q = absurd (omega arith)
-entry-held tab (p ∷ ps) zero i h q =
-    omega (arith, cover-version p (shown tab p) (filesOf tab ps) i, in-run (runOf (shown tab p) .start .0) (runOf (shown tab p) .sectors) i (q .0) (q .1))
+entry-held tab (p ∷ ps) zero i h q = omega (arith, cover-version p (shown tab p) (filesOf tab ps) i, holds-count (runOf (shown tab p)) i .0 q)
 entry-held tab (p ∷ ps) (suc j) i h q = omega (arith, cover-version p (shown tab p) (filesOf tab ps) i, entry-held tab ps j i (omega arith) q)
 
 -- ---- one change of an entry
@@ -76,10 +108,6 @@ module _ (s : Opened) (j a k : ℕ) (v : Version) (work n d : List ℕ) (R : Rea
   same-present : presentTable s (sec after) ≡ tpOf s work
   same-present = present-live s (sec after) (R .live) ∙ ap (λ (t : List ℕ). set t (s .c .0) (s .t .0)) same-table
 
-  pub earlier-is : earlierRun s work j ≡ oldRun s j work
-  unfolding runAt
-  earlier-is = rw (present-live s (sec work) (R .live))
-
   -- the two bitmaps, bit by bit
   bit-now : (i : ℕ) → bitAt (presentPage s (sec after)) i ≡ bitAt (setRun (setRun (pageIn g (tpOf s work) (sec work)) a k 1) b m 0) i
   unfolding presentPage
@@ -99,11 +127,11 @@ module _ (s : Opened) (j a k : ℕ) (v : Version) (work n d : List ℕ) (R : Rea
   old-in = omega (arith, wide, setRun-length (pageIn g (tpOf s work) (sec work)) a k 1, old-top)
     where
       old-top : b + m ≤ 4096 * gP g
-      old-top = rw earlier-is at (C .earlier)
+      old-top = rw (earlier-is s work j (R .live)) at (C .earlier)
 
   -- the content goes to none of the earlier sectors
   not-both : (i : ℕ) → InRun a k i → ¬ InRun b m i
-  not-both i q r = omega (arith, free i (q .0) (q .1), entry-held (tpOf s work) (entriesOf (s .geo) (sec work)) j i (R .below) r)
+  not-both i q r = omega (arith, free i (q .0) (q .1), entry-held (tpOf s work) (entriesOf (s .geo) (sec work)) j i (R .below) (holds-run (oldRun s j work) i .1 r))
 
   pub bit-set : (i : ℕ) → InRun a k i → bitAt (presentPage s (sec after)) i ≡ 1
   bit-set i q =

@@ -5,7 +5,7 @@ use mathlib.Core.List.{List, []}
 use mathlib.Core.Logic.{inr, _≢_}
 use Prim.Native.Nat.{ℕ, zero, suc, _+_, _≤_, _<_}
 use native.Mathlib.Omega.{arith}
-use lib.ListN.{length, drop, getD, set}
+use lib.ListN.{length, getD, set}
 use Rattle.words.specs.Lists.{every, isZero, pad}
 use Rattle.words.specs.Bytes.{wordAt}
 use Rattle.words.specs.BoolLaws.{All2, nil2, cons2}
@@ -17,7 +17,7 @@ use Rattle.counts.specs.TableLaws.{past-index, dir-data}
 use Rattle.counts.specs.GeoLaws.{Limits}
 use Rattle.counts.specs.Stamps.{maxTx, stampOf}
 use Rattle.entries.specs.declared.Version.{Version}
-use Rattle.entries.specs.Entries.{nameBytes, entryOf, entryBytes, shownBytes, shown, isAbsent, versionOk, changed}
+use Rattle.entries.specs.Entries.{nameBytes, entryOf, entryRest, entryBytes, shownBytes, shown, isAbsent, versionOk, changed}
 use Rattle.entries.specs.ChangeLaws.{GoodVersion, bytes-stamp, bytes-size, bytes-name, bytes-zeros, cut-shown, cut-wf}
 use Rattle.directory.specs.Directory.{sectorEntries}
 use Rattle.apages.specs.Index.{groupOf, indexIn, shownPage}
@@ -31,7 +31,7 @@ pub step-same : (g : Geo) (L : Limits g) (tab : List ℕ) (own : Stamp) → (hc 
     → (cN : own .cc .0 < gN g) → (tM : own .txc .0 ≤ maxTx) → (p n : List ℕ) (v : Version)
     → (stamps : stampOf p .cc .0 ≡ own .cc .0 → stampOf p .txc .0 ≤ own .txc .0)
     → (wf : versionOk g (shownBytes tab p) ≡ true) → (short : length n ≤ 32) → (good : GoodVersion g v)
-    → (isAbsent (shown tab p) ≡ false → (wordAt p 8 ≡ length n) × (nameBytes p ≡ pad 32 n)) → every isZero (drop 76 p) ≡ true
+    → (isAbsent (shown tab p) ≡ false → (wordAt p 8 ≡ length n) × (nameBytes p ≡ pad 32 n)) → every isZero (entryRest p) ≡ true
     → (p₀ : List ℕ) → EntrySame g tab own p₀ p → EntrySame g tab own p₀ (entryBytes (changed (set tab (own .cc .0) (own .txc .0)) own (entryOf p) n v))
 step-same g L tab own hc hw cN tM p n v stamps wf short good named zeros p₀ s =
     record {

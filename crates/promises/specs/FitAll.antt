@@ -17,6 +17,7 @@ use Rattle.directory.specs.Directory.{entriesOf, named}
 use Rattle.apages.specs.LowestLaws.{run-clear}
 use Rattle.card.specs.Plan.{doIt}
 use Rattle.card.specs.Files.{runOf}
+use Rattle.card.specs.PieceLaws.{count-run}
 use Rattle.card.specs.SpaceLaws.{page-wide}
 use Rattle.card.specs.AgreeLaws.{view-agree, entries-agree, index-agree, alone-first}
 use Rattle.session.specs.declared.Opened.{Opened}
@@ -52,7 +53,7 @@ put-fits s work n d goal j a h =
       free = run-free s work F (p .live) (sectorsFor (length d)) goal a (p .run);
       name = p .name;
       clear = λ i lo hi. run-clear (sectorsFor (length d)) goal a _ _ (wp ∙ sym wc) (run-live s work F (p .live) (sectorsFor (length d)) goal a (p .run)) i lo hi .0;
-      run = λ i. (unfold runOf putRun in refl);
+      run = λ i. (unfold runOf putRun in count-run (putRun a d) i);
     })
 
 pub remove-fits : (s : Opened) (work n : List ℕ) (j a : ℕ) → removePlan s work n ≡ doIt j a → Fit s (removeWork s j work n)
@@ -69,7 +70,7 @@ remove-fits s work n j a h =
       free = λ i lo hi. absurd (omega arith);
       name = p .name;
       clear = λ i lo hi. absurd (omega arith);
-      run = λ i. (unfold runOf in refl);
+      run = λ i. (unfold runOf in count-run (runOf Absent) i);
     })
 
 -- ---- sync

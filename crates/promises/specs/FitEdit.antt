@@ -24,7 +24,8 @@ use Rattle.apages.specs.Runs.{pageOk}
 use Rattle.apages.specs.Index.{indexIn, pageIn}
 use Rattle.apages.specs.PassLaws.{index-intro}
 use Rattle.card.specs.declared.Line.{Line}
-use Rattle.card.specs.Files.{filesOf, cover, runOf}
+use Rattle.card.specs.Files.{holdsAt, filesOf, cover, runOf}
+use Rattle.card.specs.PieceLaws.{count-run}
 use Rattle.card.specs.FileLaws.{Holds, files-append, files-set, files-within, held-data, cover-append}
 use Rattle.card.specs.BitmapLaws.{InData}
 use Rattle.card.specs.RuleLaws.{cover-version, rule-kept}
@@ -87,7 +88,7 @@ module _ (s : Opened) (j a k : ℕ) (v : Version) (work n d : List ℕ) (M : Mad
   B = filesOf tp (drop (suc j) es)
 
   abbrev old : ℕ → ℕ
-  old i = inRun (oldRun s j work .start .0) (oldRun s j work .sectors) i
+  old i = holdsAt (oldRun s j work) i
 
   was-cover : (i : ℕ) → cover (filesOf tp es) i ≡ cover A i + (old i + cover B i)
   unfolding filesOf
@@ -116,8 +117,8 @@ module _ (s : Opened) (j a k : ℕ) (v : Version) (work n d : List ℕ) (M : Mad
   page-good =
       rw (map-now s j a k v work n d (sec work) R)
       (rule-kept g (F .shape) (cover (filesOf tp es)) (cover (filesOf tp (set es j x))) (pageIn g tp (sec work)) (page-wide g (s .c .0) tp work (F .shape) (F .sized) P) (P .page) a k
-      (oldRun s j work .start .0) (oldRun s j work .sectors) (λ i. omega (arith, was-cover i, now-cover i)) (R .fits) (old-run .0)
-      (λ i lo hi. (R .inside i lo hi, omega (arith, hi, R .fits))) (old-run .1) (λ i. omega (arith, was-cover i)) (M .clear))
+      (oldRun s j work .start .0) (oldRun s j work .sectors) (λ i. omega (arith, was-cover i, now-cover i, count-run (oldRun s j work) i)) (R .fits) (old-run .0)
+      (λ i lo hi. (R .inside i lo hi, omega (arith, hi, R .fits))) (old-run .1) (λ i. omega (arith, was-cover i, count-run (oldRun s j work) i)) (M .clear))
 
   -- ---- the tests
 

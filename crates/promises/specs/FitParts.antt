@@ -29,7 +29,7 @@ use Rattle.directory.specs.Directory.{entriesOf}
 use Rattle.apages.specs.Bits.{bitAt}
 use Rattle.apages.specs.Index.{indexIn, pageIn}
 use Rattle.apages.specs.PassLaws.{IndexPasses, index-inv}
-use Rattle.card.specs.Files.{filesOf, cover, runOf}
+use Rattle.card.specs.Files.{holdsAt, filesOf, cover, runOf}
 use Rattle.card.specs.SoundLaws.{View}
 use Rattle.session.specs.declared.Opened.{Opened}
 use Rattle.session.specs.Views.{presentTable}
@@ -60,7 +60,7 @@ pub record Made (s : Opened) (j a k : ℕ) (v : Version) (work n d : List ℕ) :
   pub free : (i : ℕ) → a ≤ i → i < a + k → cover (filesOf (tpOf s work) (entriesOf (s .geo) (sec work))) i ≡ 0
   pub name : goodName n ≡ true
   pub clear : (i : ℕ) → a ≤ i → i < a + k → bitAt (pageIn (s .geo) (tpOf s work) (sec work)) i ≡ 0
-  pub run : (i : ℕ) → inRun (runOf v .start .0) (runOf v .sectors) i ≡ inRun a k i
+  pub run : (i : ℕ) → holdsAt (runOf v) i ≡ inRun a k i
 
 module _ (s : Opened) (j a k : ℕ) (v : Version) (work n d : List ℕ) (M : Made s j a k v work n d) where
   abbrev R : Ready s j a k v work n d (sec work)

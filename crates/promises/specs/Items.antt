@@ -11,7 +11,8 @@ use Rattle.counts.specs.declared.Geo.{Geo}
 use Rattle.counts.specs.Geometry.{gF, countOf, tableOf}
 use Rattle.directory.specs.Directory.{entriesOf}
 use Rattle.card.specs.declared.Line.{Line}
-use Rattle.card.specs.FileLaws.{Within, none, more, Holds, held-data, files-within, content-same}
+use Rattle.card.specs.PieceLaws.{content-same}
+use Rattle.card.specs.FileLaws.{Within, none, more, Holds, held-data, files-within}
 use Rattle.card.specs.Reading.{filesIn}
 use Rattle.card.specs.Sound.{soundIn}
 use Rattle.card.specs.SoundLaws.{sound-view}
@@ -23,8 +24,8 @@ unfolding items
 items-same a b none h = refl
 items-same {g} a b (more {f = f} {fs = fs} R w) h =
     rw (
-      content-same g a b (f .run) R (λ j lo hi. h j (record { file = f; there = List·Memᴰ·head refl; low = lo; high = hi })),
-      items-same a b w (λ i q. h i (record { file = q .file; there = List·Memᴰ·tail (q .there); low = q .low; high = q .high })),
+      content-same a b (f .run) (λ j q. h j (record { file = f; there = List·Memᴰ·head refl; held = q })),
+      items-same a b w (λ i q. h i (record { file = q .file; there = List·Memᴰ·tail (q .there); held = q .held })),
     )
 
 -- the files of a sound card lie inside its data

@@ -5,7 +5,6 @@ use mathlib.Core.List.{List, [], _∷_}
 use mathlib.Core.Logic.{_⊎_, inl}
 use Prim.Native.Nat.{ℕ, zero, suc, _+_, _≤_, _<_}
 use native.Mathlib.Omega.{arith}
-use lib.ListN.{drop}
 use Rattle.words.specs.Lists.{every, pairwise, isZero, eqList}
 use Rattle.words.specs.Bytes.{wordAt}
 use Rattle.words.specs.BoolLaws.{both, join, All2, nil2, cons2, all2-append}
@@ -18,7 +17,7 @@ use Rattle.counts.specs.Stamps.{maxTx, stampOf}
 use Rattle.counts.specs.GeoLaws.{head-of, table-same, stamp-either, dead-either}
 use Rattle.entries.specs.declared.Version.{Version}
 use Rattle.entries.specs.declared.Version.the-variants.{Absent, Present}
-use Rattle.entries.specs.Entries.{shownBytes, shown, isAbsent, nameBytes, nameOf, nameOk, versionOk, entryOk}
+use Rattle.entries.specs.Entries.{entryRest, shownBytes, shown, isAbsent, nameBytes, nameOf, nameOk, versionOk, entryOk}
 use Rattle.entries.specs.PassLaws.{passes, passes-intro}
 use Rattle.directory.specs.Directory.{sectorEntries, entriesFrom, entriesOf, gone, apart}
 use Rattle.apages.specs.Index.{groupOf, indexIn, indexOk, shownPage, pageAt, pageIn}
@@ -39,7 +38,7 @@ pub record EntrySame (g : Geo) (tab : List ℕ) (own : Stamp) (p₀ p : List ℕ
   pub wf : versionOk g (shownBytes tab p₀) ≡ true → versionOk g (shownBytes tab p) ≡ true
   pub named : isAbsent (shown tab p₀) ≡ false → (wordAt p 8 ≡ wordAt p₀ 8) × (nameBytes p ≡ nameBytes p₀)
   pub stamp : (stampOf p ≡ stampOf p₀) ⊎ (stampOf p ≡ own)
-  pub zeros : every isZero (drop 76 p) ≡ every isZero (drop 76 p₀)
+  pub zeros : every isZero (entryRest p) ≡ every isZero (entryRest p₀)
 
 module _ (g : Geo) (tab : List ℕ) (own : Stamp) where
   pub entry-refl : (l : List (List ℕ)) → All2 (EntrySame g tab own) l l

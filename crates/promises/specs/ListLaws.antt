@@ -22,6 +22,7 @@ use Rattle.entries.specs.Entries.{nameBytes, shown, goodByte, goodName, nameOf,
 use Rattle.entries.specs.PassLaws.{Passes, passes, good-name, RunIs, run-holds, run-room, shown-run}
 use Rattle.directory.specs.Directory.{gone, apart, named}
 use Rattle.card.specs.Files.{consFile, filesOf, contentOf, runOf}
+use Rattle.card.specs.PieceLaws.{content-run}
 use Rattle.promises.specs.PlainList.{Item, lineName, items, lookup}
 use Rattle.promises.specs.PlainCalls.{Told, Lines, none-left, one-more}
 
@@ -41,9 +42,9 @@ name-good p l h =
 
 -- the content of a run that lies in the image has the file's bytes
 pub content-length : (g : Geo) (img : List ℕ) (r : Run) → length img ≡ 512 * g .s → RunIs g r → length (contentOf img r) ≡ r .bytes
-unfolding contentOf
 content-length g img r l R =
-    length-take-le (r .bytes) (drop (512 * r .start .0) img) (simp length-drop (omega (arith, run-holds g r R, run-room g r R)))
+    rw (content-run img r (run-holds g r R))
+    (length-take-le (r .bytes) (drop (512 * r .start .0) img) (simp length-drop (omega (arith, run-holds g r R, run-room g r R))))
 
 -- two items with other names
 abbrev pub differ : Item → Item → Bool

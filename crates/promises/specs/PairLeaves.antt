@@ -3,8 +3,8 @@
 use mathlib.Core.Path.{_≡_, refl, sym, _∙_}
 use mathlib.Core.Bool.{true}
 use mathlib.Core.List.{List, []}
-use mathlib.Core.Logic.{_⊎_, ⊎-elim, _≢_}
-use Prim.Native.Nat.{ℕ, _/_, _<_}
+use mathlib.Core.Logic.{⊎-elim, _≢_}
+use Prim.Native.Nat.{ℕ, _<_}
 use native.Mathlib.Omega.{arith}
 use borrow.Author.Tests.{le-leb, lt-leb}
 use lib.ListN.{length, getD}
@@ -20,17 +20,17 @@ use Rattle.entries.specs.Entries.{sectorsFor}
 use Rattle.apages.specs.Index.{groupOf, indexIn, pairOk, shownPage}
 use Rattle.apages.specs.PassLaws.{Pair, pair-values}
 use Rattle.apages.specs.IndexViews.{IdxSame}
-use Rattle.card.specs.Files.{runAt}
+use Rattle.card.specs.Files.{runOf}
 use Rattle.card.specs.Plan.{doIt}
 use Rattle.card.specs.Means.{Alive}
 use Rattle.session.specs.declared.Opened.{Opened}
 use Rattle.session.specs.Views.{ownStamp, presentTable, cutTable}
 use Rattle.session.specs.FitLaws.{present-live}
 use Rattle.store.specs.Edit.{putPlan, putRun, putWork, editWork, removePlan, removeWork}
-use Rattle.promises.specs.Ready.{ownOf, tcOf, tpOf, oldRun, hc, hw, paired, Ready}
+use Rattle.promises.specs.Ready.{ownOf, tcOf, tpOf, hc, hw, paired, Ready, old-page}
 use Rattle.promises.specs.Change.{index-same, stamped-now, page-kept}
 use Rattle.promises.specs.Calls.{put-ready, remove-ready}
-use Rattle.promises.specs.BitsNow.{earlierRun}
+use Rattle.promises.specs.BitsNow.{Changes, changes-runs}
 
 -- ---- the statement
 
@@ -43,10 +43,6 @@ A x = wordAt x 8
 
 abbrev pub B : List ℕ → ℕ
 B x = wordAt x 12
-
--- a bit of page q changes: the run of k sectors from a on lies in it, or the earlier sectors do
-abbrev pub Changes : Opened → List ℕ → ℕ → ℕ → ℕ → ℕ → Type 0
-Changes s work j a k q = ((0 < k) × (q ≡ a / 4096)) ⊎ ((0 < earlierRun s work j .sectors) × (q ≡ earlierRun s work j .start .0 / 4096))
 
 pub record PairLeaves (s : Opened) (work after : List ℕ) (q : ℕ) : Type 0 where
   -- "and the stamp becomes (c, t)"
@@ -62,11 +58,11 @@ pub record PairLeaves (s : Opened) (work after : List ℕ) (q : ℕ) : Type 0 wh
 
 abbrev pub PutPairs : Type 0
 PutPairs = (s : Opened) (work n d : List ℕ) (goal j a : ℕ) → putPlan s work n d goal ≡ doIt j a
-    → (q : ℕ) → q < gP (s .geo) → Changes s work j a (sectorsFor (length d)) q → PairLeaves s work (putWork s j a work n d) q
+    → (q : ℕ) → q < gP (s .geo) → Changes s work j (Present (putRun a d)) q → PairLeaves s work (putWork s j a work n d) q
 
 abbrev pub RemovePairs : Type 0
 RemovePairs = (s : Opened) (work n : List ℕ) (j a : ℕ) → removePlan s work n ≡ doIt j a
-    → (q : ℕ) → q < gP (s .geo) → Changes s work j 0 0 q → PairLeaves s work (removeWork s j work n) q
+    → (q : ℕ) → q < gP (s .geo) → Changes s work j Absent q → PairLeaves s work (removeWork s j work n) q
 
 -- ---- proved
 
@@ -140,19 +136,14 @@ module _ (s : Opened) (j a k : ℕ) (v : Version) (work n d : List ℕ) (R : Rea
         kept = rw (back e) (page-kept s j a k v work n d (sec work) R q l);
       }
 
-  -- the earlier sectors are those of the present view
-  changes-now : Changes s work j a k q → ((0 < k) × (q ≡ a / 4096)) ⊎ ((0 < oldRun s j work .sectors) × (q ≡ oldRun s j work .start .0 / 4096))
-  unfolding runAt
-  changes-now c = rw (present-live s (sec work) (R .live)) at c
-
-  pub edit-pairs : Changes s work j a k q → PairLeaves s work after q
-  edit-pairs c = pair-leaves (stamped-now s j a k v work n d (sec work) R q l (changes-now c))
+  edit-pairs : (runOf v .start .0 ≡ a) × (runOf v .sectors ≡ k) → Changes s work j v q → PairLeaves s work after q
+  edit-pairs is c = pair-leaves (stamped-now s j a k v work n d (sec work) R q l (changes-runs s work j a k v (R .live) is q (R .page) (old-page s j a k v work n d (sec work) R) c))
 
 pub put-pairs : PutPairs
 unfolding putWork
 put-pairs s work n d goal j a h q l c =
-    edit-pairs s j a (sectorsFor (length d)) (Present (putRun a d)) work n d (put-ready s work (sec work) refl n d goal j a h) q l c
+    edit-pairs s j a (sectorsFor (length d)) (Present (putRun a d)) work n d (put-ready s work (sec work) refl n d goal j a h) q l (unfold runOf putRun in (refl, refl)) c
 
 pub remove-pairs : RemovePairs
 unfolding removeWork
-remove-pairs s work n j a h q l c = edit-pairs s j 0 0 Absent work n [] (remove-ready s work (sec work) refl n j a h) q l c
+remove-pairs s work n j a h q l c = edit-pairs s j 0 0 Absent work n [] (remove-ready s work (sec work) refl n j a h) q l (unfold runOf in (refl, refl)) c

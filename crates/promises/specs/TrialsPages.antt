@@ -3,11 +3,12 @@ use mathlib.Core.Path.{_≡_, refl}
 use mathlib.Core.Bool.{true, false}
 use mathlib.Core.List.{[], _∷_}
 use Prim.Native.Nat.{ℕ}
+use Rattle.words.specs.Lists.{every}
 use Rattle.words.specs.declared.Found.the-variants.{At, Nowhere}
 use Rattle.counts.specs.declared.Geo.{Geo}
 use Rattle.counts.specs.Geometry.{gP, gDir, gF, geoOk}
 use Rattle.entries.specs.declared.Run.{Run}
-use Rattle.entries.specs.Entries.{sectorsFor, runOk}
+use Rattle.entries.specs.Entries.{sectorsFor, piecesOf, pieceOk, runOk}
 use Rattle.apages.specs.Runs.{allClear, findRun}
 use Rattle.apages.specs.Index.{pairOk}
 
@@ -59,11 +60,11 @@ run : ℕ → Run
 run a = record { start = record { 0 = a }; sectors = 2; bytes = 1024 }
 
 across : runOk (card 8192) (run 4095) ≡ false
-unfolding runOk sectorsFor gF gDir gP card run
+unfolding runOk every piecesOf pieceOk sectorsFor gF gDir gP card run
 across = refl
 
 inside : runOk (card 8192) (run 4096) ≡ true
-unfolding runOk sectorsFor gF gDir gP card run
+unfolding runOk every piecesOf pieceOk sectorsFor gF gDir gP card run
 inside = refl
 
 -- the search passes over a page's end

@@ -1,6 +1,7 @@
 -- What a put or remove that gives 0 changes in the working image, and that all the rest stays as it was. Assumes nothing.
 use mathlib.Core.Path.{_≡_, refl, sym, _∙_}
 use mathlib.Core.List.{List, [], _∷_}
+use mathlib.Core.Logic.{_⊎_, inl, inr, _↔_}
 use Prim.Native.Nat.{ℕ, zero, suc, _+_, _*_, _/_, _≤_, _<_}
 use native.Mathlib.Omega.{arith}
 use lib.ListN.{length, take, drop, getD, set}
@@ -13,12 +14,13 @@ use Rattle.counts.specs.Geometry.{gP, gF}
 use Rattle.counts.specs.TableLaws.{past-index}
 use Rattle.entries.specs.declared.Version.{Version}
 use Rattle.entries.specs.declared.Version.the-variants.{Absent, Present}
-use Rattle.entries.specs.Entries.{entryOf, entryBytes, changed, sectorsFor}
+use Rattle.entries.specs.Entries.{entryOf, entryBytes, changed, sectorsFor, piecesOf}
 use Rattle.entries.specs.ChangeLaws.{pad-length}
 use Rattle.directory.specs.Directory.{entriesOf}
 use Rattle.apages.specs.Bits.{bitAt}
 use Rattle.card.specs.Plan.{doIt, ended, done}
-use Rattle.card.specs.Files.{filesOf, cover}
+use Rattle.card.specs.Files.{FileHolds, piecesIn, filesOf, cover, runOf}
+use Rattle.card.specs.PieceLaws.{run-bytes}
 use Rattle.session.specs.declared.Opened.{Opened}
 use Rattle.session.specs.declared.Session.the-variants.{Open}
 use Rattle.session.specs.Views.{ownStamp, presentTable, cutTable, presentPage, cutPage}
@@ -27,15 +29,15 @@ use Rattle.store.specs.Edit.{putContent, putPlan, putRun, putWork, putAt, remov
 use Rattle.store.specs.EditLaws.{CanEdit}
 use Rattle.store.specs.RoomLaws.{can-put, can-remove}
 use Rattle.store.specs.Plans.{put-inv, put-num, remove-inv, remove-num}
-use Rattle.promises.specs.Ready.{tpOf, Ready, spot}
+use Rattle.promises.specs.Ready.{tpOf, oldRun, Ready, spot}
 use Rattle.promises.specs.Change.{edit-length, data-put, left-alone, entries-now, cut-now, pair-kept}
 use Rattle.apages.specs.Remapped.{PairSame}
 use Rattle.promises.specs.Calls.{put-ready, remove-ready}
 use Rattle.promises.specs.Answers.{run-free, done-plan}
-use Rattle.promises.specs.BitsNow.{InRun, earlierRun, same-head, same-table, earlier-is, bit-set, bit-clear, bit-same}
+use Rattle.promises.specs.BitsNow.{InRun, earlierRun, Changes, holds-new, holds-old, runs-change, same-head, same-table, bit-set, bit-clear, bit-same}
 
--- after is work, but for entry j (name n, version v), k sectors of content d from sector a on, and the bitmap's bits of these and of the earlier sectors
-pub record Untouched (s : Opened) (j a k : ℕ) (v : Version) (work n d after : List ℕ) : Type 0 where
+-- after is work, but for entry j (name n, version v), content d in the sectors of v, and the bitmap's bits of these and of the file's earlier sectors
+pub record Untouched (s : Opened) (j : ℕ) (v : Version) (work n d after : List ℕ) : Type 0 where
   -- the working image keeps its size
   pub size : length after ≡ length work
   -- the head and the table, sectors 0 to T, are the same
@@ -43,17 +45,16 @@ pub record Untouched (s : Opened) (j a k : ℕ) (v : Version) (work n d after : 
   -- entry j gets the name and the version; every other entry is the same
   pub entries : entriesOf (s .geo) (sec after)
       ≡ set (entriesOf (s .geo) (sec work)) j (entryBytes (changed (presentTable s (sec work)) (ownStamp s) (entryOf (getD (entriesOf (s .geo) (sec work)) j [])) n v))
-  -- every data sector outside the run is the same
-  pub others : (i : ℕ) → gF (s .geo) ≤ i → ¬ InRun a k i → sec after i ≡ sec work i
-  -- the run holds the content; the last sector is filled with zeros
-  pub content : take (512 * k) (drop (512 * a) after) ≡ pad (512 * k) d
-  -- the present map: the run's bits are set, the earlier sectors' bits are cleared, every other bit is the same
-  pub taken : (i : ℕ) → InRun a k i → bitAt (presentPage s (sec after)) i ≡ 1
-  pub freed : (i : ℕ) → InRun (earlierRun s work j .start .0) (earlierRun s work j .sectors) i → bitAt (presentPage s (sec after)) i ≡ 0
-  pub bits : (i : ℕ) → ¬ InRun a k i → ¬ InRun (earlierRun s work j .start .0) (earlierRun s work j .sectors) i
-      → bitAt (presentPage s (sec after)) i ≡ bitAt (presentPage s (sec work)) i
+  -- every data sector that the version does not hold is the same
+  pub others : (i : ℕ) → gF (s .geo) ≤ i → ¬ FileHolds (runOf v) i → sec after i ≡ sec work i
+  -- its pieces hold the content; the last sector is filled with zeros
+  pub content : piecesIn after (piecesOf (runOf v)) ≡ pad (512 * runOf v .sectors) d
+  -- the present map: the bits of the version's sectors are set, those of the earlier sectors are cleared, every other bit is the same
+  pub taken : (i : ℕ) → FileHolds (runOf v) i → bitAt (presentPage s (sec after)) i ≡ 1
+  pub freed : (i : ℕ) → FileHolds (earlierRun s work j) i → bitAt (presentPage s (sec after)) i ≡ 0
+  pub bits : (i : ℕ) → ¬ FileHolds (runOf v) i → ¬ FileHolds (earlierRun s work j) i → bitAt (presentPage s (sec after)) i ≡ bitAt (presentPage s (sec work)) i
   -- a pair of pages in which no bit changes is the same to the byte, its group too
-  pub pairs : (q : ℕ) → q < gP (s .geo) → ¬ ((0 < k) × (q ≡ a / 4096)) → ¬ ((0 < earlierRun s work j .sectors) × (q ≡ earlierRun s work j .start .0 / 4096)) → PairSame (s .geo) work after q
+  pub pairs : (q : ℕ) → q < gP (s .geo) → ¬ Changes s work j v q → PairSame (s .geo) work after q
   -- the map that the cut view shows is the same
   pub cut : cutPage s (sec after) ≡ cutPage s (sec work)
 
@@ -67,7 +68,8 @@ content-there a (suc k) d work l e = range-same work (512 * a) (512 * suc k) (pa
 -- ---- one change of an entry
 
 module _ (s : Opened) (j a k : ℕ) (v : Version) (work n d : List ℕ) (R : Ready s j a k v work n d (sec work)) (C : CanEdit s work j a k n d)
-    (free : (i : ℕ) → a ≤ i → i < a + k → cover (filesOf (tpOf s work) (entriesOf (s .geo) (sec work))) i ≡ 0) where
+    (free : (i : ℕ) → a ≤ i → i < a + k → cover (filesOf (tpOf s work) (entriesOf (s .geo) (sec work))) i ≡ 0)
+    (is : (runOf v .start .0 ≡ a) × (runOf v .sectors ≡ k)) where
   abbrev g : Geo
   g = s .geo
 
@@ -79,10 +81,13 @@ module _ (s : Opened) (j a k : ℕ) (v : Version) (work n d : List ℕ) (R : Rea
   same-others i h o =
       left-alone s j a k v work n d (sec work) R i (omega (arith, spot s j a k v work n d (sec work) R .high)) (omega (arith, past-index g)) (λ q. omega (arith, q .1)) o
 
-  content-now : take (512 * k) (drop (512 * a) after) ≡ pad (512 * k) d
-  content-now =
-      flat-same after (putContent a k d work) k a (λ i lo hi. data-put s j a k v work n d (sec work) R i (R .inside i lo hi))
-      ∙ content-there a k d work (C .room) (R .enough)
+  content-now : piecesIn after (piecesOf (runOf v)) ≡ pad (512 * runOf v .sectors) d
+  content-now = run-bytes after (runOf v) ∙ rw (is .0, is .1) run-now
+    where
+      run-now : take (512 * k) (drop (512 * a) after) ≡ pad (512 * k) d
+      run-now =
+          flat-same after (putContent a k d work) k a (λ i lo hi. data-put s j a k v work n d (sec work) R i (R .inside i lo hi))
+          ∙ content-there a k d work (C .room) (R .enough)
 
   -- ---- the map that the cut view shows
 
@@ -95,59 +100,68 @@ module _ (s : Opened) (j a k : ℕ) (v : Version) (work n d : List ℕ) (R : Rea
   unfolding ownStamp
   entries-are = rw (present-live s (sec work) (R .live)) (entries-now s j a k v work n d (sec work) R)
 
-  pub edit-untouched : Untouched s j a k v work n d after
+  new : (i : ℕ) → FileHolds (runOf v) i ↔ InRun a k i
+  new = holds-new s work j a k v (R .live) is
+
+  old : (i : ℕ) → FileHolds (earlierRun s work j) i ↔ InRun (oldRun s j work .start .0) (oldRun s j work .sectors) i
+  old = holds-old s work j a k v (R .live) is
+
+  changes : (q : ℕ) → ((0 < k) × (q ≡ a / 4096)) ⊎ ((0 < oldRun s j work .sectors) × (q ≡ oldRun s j work .start .0 / 4096)) → Changes s work j v q
+  changes = runs-change s work j a k v (R .live) is
+
+  pub edit-untouched : Untouched s j v work n d after
   edit-untouched =
       record {
         size = edit-length s j a k v work n d (sec work) R ∙ sym (R .fit .sized);
         head = same-head s j a k v work n d R C free;
         entries = entries-are;
-        others = same-others;
+        others = λ i h o. same-others i h (λ q. o (new i .1 q));
         content = content-now;
-        taken = bit-set s j a k v work n d R C free;
-        freed = rw (earlier-is s j a k v work n d R C free) (bit-clear s j a k v work n d R C free);
-        bits = rw (earlier-is s j a k v work n d R C free) (bit-same s j a k v work n d R C free);
-        pairs = rw (earlier-is s j a k v work n d R C free) (pair-kept s j a k v work n d (sec work) R);
+        taken = λ i h. bit-set s j a k v work n d R C free i (new i .0 h);
+        freed = λ i h. bit-clear s j a k v work n d R C free i (old i .0 h);
+        bits = λ i o u. bit-same s j a k v work n d R C free i (λ q. o (new i .1 q)) (λ q. u (old i .1 q));
+        pairs = λ q l o. pair-kept s j a k v work n d (sec work) R q l (λ w. o (changes q (inl w))) (λ w. o (changes q (inr w)));
         cut = same-cut;
       }
 
 -- ---- put and remove
 
 pub put-untouched : (s : Opened) (work n d : List ℕ) (goal j a : ℕ) → putPlan s work n d goal ≡ doIt j a
-    → Untouched s j a (sectorsFor (length d)) (Present (putRun a d)) work n d (putWork s j a work n d)
+    → Untouched s j (Present (putRun a d)) work n d (putWork s j a work n d)
 unfolding putWork
 put-untouched s work n d goal j a h =
     let p = put-inv s work n d goal j a h in
     edit-untouched s j a (sectorsFor (length d)) (Present (putRun a d)) work n d (put-ready s work (sec work) refl n d goal j a h)
     (can-put s work n d goal j a (p .fit) (p .name) (p .entry) (p .run) refl)
-    (run-free s work (fit-inv s work (p .fit)) (p .live) (sectorsFor (length d)) goal a (p .run))
+    (run-free s work (fit-inv s work (p .fit)) (p .live) (sectorsFor (length d)) goal a (p .run)) (unfold runOf putRun in (refl, refl))
 
-pub remove-untouched : (s : Opened) (work n : List ℕ) (j a : ℕ) → removePlan s work n ≡ doIt j a → Untouched s j 0 0 Absent work n [] (removeWork s j work n)
+pub remove-untouched : (s : Opened) (work n : List ℕ) (j a : ℕ) → removePlan s work n ≡ doIt j a → Untouched s j Absent work n [] (removeWork s j work n)
 unfolding removeWork
 remove-untouched s work n j a h =
     let p = remove-inv s work n j a h in
     edit-untouched s j 0 0 Absent work n [] (remove-ready s work (sec work) refl n j a h) (can-remove s work n j (p .fit) (p .name) (p .entry))
-    (λ i lo hi. absurd (omega arith))
+    (λ i lo hi. absurd (omega arith)) (unfold runOf in (refl, refl))
 
 -- ---- as the calls answer: 0 goes with an entry and a run, and the call leaves the image so changed
 
 put-leaves : (s : Opened) (work n d : List ℕ) (goal j a : ℕ) → putPlan s work n d goal ≡ doIt j a
-    → Untouched s j a (sectorsFor (length d)) (Present (putRun a d)) work n d (putAt (Open s) work n d goal .image)
+    → Untouched s j (Present (putRun a d)) work n d (putAt (Open s) work n d goal .image)
 unfolding putAt
 put-leaves s work n d goal j a h = rw h (unfold ended in put-untouched s work n d goal j a h)
 
-remove-leaves : (s : Opened) (work n : List ℕ) (j a : ℕ) → removePlan s work n ≡ doIt j a → Untouched s j 0 0 Absent work n [] (remove (Open s) work n .image)
+remove-leaves : (s : Opened) (work n : List ℕ) (j a : ℕ) → removePlan s work n ≡ doIt j a → Untouched s j Absent work n [] (remove (Open s) work n .image)
 unfolding remove
 remove-leaves s work n j a h = rw h (unfold ended in remove-untouched s work n j a h)
 
 pub put-changes : (s : Opened) (work n d : List ℕ) (goal : ℕ) → putAt (Open s) work n d goal .answer .number ≡ 0
-    → (j : ℕ) × (a : ℕ) × (putPlan s work n d goal ≡ doIt j a) × Untouched s j a (sectorsFor (length d)) (Present (putRun a d)) work n d (putAt (Open s) work n d goal .image)
+    → (j : ℕ) × (a : ℕ) × (putPlan s work n d goal ≡ doIt j a) × Untouched s j (Present (putRun a d)) work n d (putAt (Open s) work n d goal .image)
 unfolding putAt
 put-changes s work n d goal h =
     let (j, a, e) = done-plan work (λ i b. record { answer = done 0; image = putWork s i b work n d }) (put-num s work n d goal) h in
     (j, a, e, put-leaves s work n d goal j a e)
 
 pub remove-changes : (s : Opened) (work n : List ℕ) → remove (Open s) work n .answer .number ≡ 0
-    → (j : ℕ) × (a : ℕ) × (removePlan s work n ≡ doIt j a) × Untouched s j 0 0 Absent work n [] (remove (Open s) work n .image)
+    → (j : ℕ) × (a : ℕ) × (removePlan s work n ≡ doIt j a) × Untouched s j Absent work n [] (remove (Open s) work n .image)
 unfolding remove
 remove-changes s work n h =
     let (j, a, e) = done-plan work (λ i b. record { answer = done 0; image = removeWork s i work n }) (remove-num s work n) h in

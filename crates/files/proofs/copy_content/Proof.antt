@@ -32,7 +32,7 @@ same-length : tie.Need-same-length
 same-length c = search needs
 
 returns : tie.Need-returns
-returns c = content-lent _ _ _ (c .before .before .put-bytes .ensures)
+returns c = content-lent _ _ _ (search needs) (c .before .before .put-bytes .ensures)
 
 pub copy-content-spec : {M : Type 1} → statement M
 copy-content-spec =

@@ -2,6 +2,7 @@
 use borrow.Author.Needs.{needs}
 use borrow.Author.Tests.{eq-eqb, ne-eqb}
 use Rattle.entries.specs.Entries.{runOk}
+use Rattle.entries.specs.PassLaws.{pieces-text}
 use Rattle.rules.proofs.run_ok.Statement.{statement}
 use Rattle.rules.proofs.run_ok.Tie as tie
 
@@ -40,7 +41,7 @@ returns-2 : tie.Need-returns-2
 unfolding runOk
 returns-2 c =
     let z = c .before .before .before .before .before .before in
-    simp (z .before .before .before .before .sectors-for .ensures, ne-eqb _ _ (z .before .if1 .left), z .data-first .ensures .0)
+    simp (z .before .before .before .before .sectors-for .ensures, ne-eqb _ _ (z .before .if1 .left), z .data-first .ensures .0, pieces-text)
 
 pub run-ok-spec : {M : Type 1} → statement M
 run-ok-spec =
