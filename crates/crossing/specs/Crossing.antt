@@ -6,6 +6,7 @@ use lib.Dec.{eqb, ltb}
 use lib.ListN.{replicate}
 use Rattle.words.specs.Bytes.{wordAt, wordBytes}
 use Rattle.counts.specs.declared.Geo.{Geo}
+use Rattle.card.specs.declared.Answer.{Answer}
 use Rattle.card.specs.declared.Report.{Report}
 use Rattle.session.specs.declared.Opened.{Opened}
 use Rattle.session.specs.declared.Session.{Session}
@@ -61,6 +62,10 @@ roomBytes r = wordBytes (r .free) ++ wordBytes (r .waiting)
 unfoldable pub roomed : Room → List ℕ → List ℕ
 roomed r out = cond (eqb (r .number) 0) (roomBytes r) out
 
--- what store_sync leaves in the session's bytes: the session where the number is 0, else the bytes as lent
+-- what a session's bytes become with a call's answer: the session that it gives where the number is 0, else as lent
+unfoldable pub keptBy : Answer → Session → List ℕ → List ℕ
+keptBy a s b = cond (eqb (a .number) 0) (encoded s) b
+
+-- what store_sync and store_unmount leave in the session's bytes
 unfoldable pub kept : Ended → List ℕ → List ℕ
-kept e b = cond (eqb (e .answer .number) 0) (encoded (e .session)) b
+kept e b = keptBy (e .answer) (e .session) b

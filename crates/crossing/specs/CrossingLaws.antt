@@ -18,12 +18,12 @@ use Rattle.session.specs.declared.Opened.{Opened}
 use Rattle.session.specs.declared.Session.{Session}
 use Rattle.session.specs.declared.Session.the-variants.{Closed, Open}
 use Rattle.store.specs.declared.Room.{Room}
-use Rattle.store.specs.Edit.{put, putAt}
-use Rattle.store.specs.Look.{free}
+use Rattle.store.specs.Edit.{put, putAt, remove}
+use Rattle.store.specs.Look.{get, free}
 use Rattle.store.specs.Mount.{Ended}
-use Rattle.store.specs.Sync.{land, sync}
+use Rattle.store.specs.Sync.{land, sync, unmount}
 use Rattle.store.specs.CardLaws.{Ends}
-use Rattle.crossing.specs.Crossing.{geoWith, openedOf, sessionOf, decoded, stateOf, openedBytes, encoded, reportBytes, reported, roomBytes, roomed, kept}
+use Rattle.crossing.specs.Crossing.{geoWith, openedOf, sessionOf, decoded, stateOf, openedBytes, encoded, reportBytes, reported, roomBytes, roomed, keptBy, kept}
 
 -- ---- a session from bytes
 
@@ -103,6 +103,10 @@ pub put-at-over : (b work n d : List ℕ) (goal : ℕ) {s : Session} {a : Answer
     → (a .number ≡ putAt (decoded b) work n d goal .answer .number) × (w ≡ putAt (decoded b) work n d goal .image)
 put-at-over b work n d goal q e = changed-over (λ s. putAt s work n d goal) q e
 
+pub remove-over : (b work n : List ℕ) {s : Session} {a : Answer} {w : List ℕ} → s ≡ decoded b → (a ≡ remove s work n .answer) × (w ≡ remove s work n .image)
+    → (a .number ≡ remove (decoded b) work n .answer .number) × (w ≡ remove (decoded b) work n .image)
+remove-over b work n q e = changed-over (λ s. remove s work n) q e
+
 pub land-over : (b card work : List ℕ) (i : ℕ) {s : Session} {a : Answer} {w : List ℕ} → s ≡ decoded b
     → (a ≡ land s card work i .answer) × (w ≡ land s card work i .image)
     → (a .number ≡ land (decoded b) card work i .answer .number) × (w ≡ land (decoded b) card work i .image)
@@ -112,27 +116,32 @@ pub mount-over : (e : Ended) {a : Answer} {s : Session} {card work b : List ℕ}
     → (a .number ≡ e .answer .number) × ((b ≡ encoded (e .session)) × ((card ≡ e .card) × (work ≡ e .work)))
 mount-over e (p, (q, r)) h = (ap (λ (x : Answer). x .number) p, (h ∙ ap (λ (y : Session). encoded y) q, r))
 
--- what store_sync_count leaves, by the call's outcome and the session's bytes as lent
+pub get-over : (b work n out : List ℕ) {s : Session} {a : Answer} {w : List ℕ} → s ≡ decoded b → (a ≡ get s work n out .answer) × (w ≡ get s work n out .out)
+    → (a ≡ get (decoded b) work n out .answer) × (w ≡ get (decoded b) work n out .out)
+get-over b work n out q e = rw q at e
+
+-- what store_sync_count and store_unmount leave, by the call's outcome and the session's bytes as lent
 abbrev pub Keeps : Ended → List ℕ → Answer → List ℕ → List ℕ → List ℕ → Type 0
 Keeps e b a after card work = (a ≡ e .answer) × ((after ≡ kept e b) × ((card ≡ e .card) × (work ≡ e .work)))
 
-module _ (b card work : List ℕ) {z s : Session} {a : Answer} {k w : List ℕ} (i : z ≡ decoded b) (g : Ends (sync z card work) a s k w) where
-  given : Ends (sync (decoded b) card work) a s k w
-  given = rw i at g
+pub keep-refused : (a : Answer) (s : Session) (b : List ℕ) → a .number ≢ 0 → b ≡ keptBy a s b
+unfolding keptBy
+keep-refused a s b n = rw (ne-eqb (a .number) 0 n)
 
-  pub sync-refused : a .number ≢ 0 → Keeps (sync (decoded b) card work) b a b k w
-  unfolding kept
-  sync-refused n =
-      let (p, (q, r)) = given in
-      let m : eqb (sync (decoded b) card work .answer .number) 0 ≡ false = rw p at (ne-eqb (a .number) 0 n) in
-      (p, (rw m, r))
+pub keep-through : (a : Answer) (s : Session) (b : List ℕ) {after : List ℕ} → a .number ≡ 0 → after ≡ encoded s → after ≡ keptBy a s b
+unfolding keptBy
+keep-through a s b n h = rw (eq-eqb (a .number) 0 n) h
 
-  pub sync-through : {after : List ℕ} → a .number ≡ 0 → after ≡ encoded s → Keeps (sync (decoded b) card work) b a after k w
-  unfolding kept
-  sync-through n h =
-      let (p, (q, r)) = given in
-      let m : eqb (sync (decoded b) card work .answer .number) 0 ≡ true = rw p at (eq-eqb (a .number) 0 n) in
-      (p, (rw m (h ∙ ap (λ (y : Session). encoded y) q), r))
+keeps : (e : Ended) (b : List ℕ) {a r : Answer} {s : Session} {k w after : List ℕ} → Ends e a s k w → (r ≡ a) × (after ≡ keptBy a s b) → Keeps e b r after k w
+unfolding kept
+keeps e b (p, (q, r)) (g, h) = (g ∙ p, (rw (← p, ← q) h, r))
+
+module _ (b card work : List ℕ) {z s : Session} {a r : Answer} {k w after : List ℕ} (i : z ≡ decoded b) where
+  pub sync-kept : Ends (sync z card work) a s k w → (r ≡ a) × (after ≡ keptBy a s b) → Keeps (sync (decoded b) card work) b r after k w
+  sync-kept g = keeps _ b (rw i at g)
+
+  pub unmount-kept : Ends (unmount z card work) a s k w → (r ≡ a) × (after ≡ keptBy a s b) → Keeps (unmount (decoded b) card work) b r after k w
+  unmount-kept g = keeps _ b (rw i at g)
 
 pub read-refused : (e : Report) (out : List ℕ) {r : Report} → r ≡ e → r .number ≢ 0 → (r .number ≡ e .number) × (out ≡ reported e out)
 unfolding reported

@@ -29,7 +29,7 @@ use Rattle.store.specs.Steps.{atTop}
 use Rattle.store.specs.Sync.{land, grown, syncDone, sync}
 use Rattle.store.specs.Plans.{both-num, mount-few, mount-good, mount-num, sync-live}
 use Rattle.promises.specs.Refusals.{refusals}
-use Rattle.crossing.specs.Crossing.{decoded, encoded, reported, roomed, kept}
+use Rattle.crossing.specs.Crossing.{decoded, encoded, reported, roomed, keptBy, kept}
 use Rattle.crossing.specs.SessionBytes.{InWords, closed-back, opened-back, closed-zeros}
 
 -- ---- refusals
@@ -57,13 +57,13 @@ pub free-stays : (s : Session) (work out : List ℕ) → free s work .number ≢
 unfolding roomed
 free-stays s work out n = rw (ne-eqb (free s work .number) 0 n)
 
--- what store_sync leaves in the session's bytes
+-- what store_sync and store_unmount leave in the session's bytes
 kept-refused : (e : Ended) (b : List ℕ) → e .answer .number ≢ 0 → kept e b ≡ b
-unfolding kept
+unfolding kept keptBy
 kept-refused e b n = rw (ne-eqb (e .answer .number) 0 n)
 
 kept-done : (e : Ended) (b : List ℕ) → e .answer .number ≡ 0 → kept e b ≡ encoded (e .session)
-unfolding kept
+unfolding kept keptBy
 kept-done e b n = rw (eq-eqb (e .answer .number) 0 n)
 
 pub sync-stays : (b card work : List ℕ) → sync (decoded b) card work .answer .number ≢ 0

@@ -1,4 +1,4 @@
-// The store for a host: functions on numbers and lent bytes, each answering a number of the table; store_sync_count adds the count.
+// The store for a host: functions on numbers and lent bytes, each answering a number of the table, and where a call counts, number and count.
 //
 // A slice crosses as a pointer and a length, an array `[u8; n]` as one pointer, a number as itself. No two lent buffers may overlap: a host can lend
 // one buffer twice, and what is promised leaves that out.
@@ -9,16 +9,17 @@
 // free and waiting.
 ghost use mathlib.Core.Path.{_≡_};
 ghost use Rattle.card.specs.Make.{make};
-ghost use Rattle.card.specs.Reading.{read};
-ghost use Rattle.store.specs.Edit.{put, putAt};
-ghost use Rattle.store.specs.Look.{free};
+ghost use Rattle.card.specs.Reading.{read, readGet};
+ghost use Rattle.store.specs.Edit.{put, putAt, remove};
+ghost use Rattle.store.specs.Look.{get, free};
 ghost use Rattle.store.specs.Mount.{mount};
-ghost use Rattle.store.specs.Sync.{land, sync};
-ghost use Rattle.crossing.specs.Crossing.{geoWith, decoded, encoded, reported, roomed, kept};
+ghost use Rattle.store.specs.Sync.{land, sync, unmount};
+ghost use Rattle.crossing.specs.Crossing.{geoWith, decoded, encoded, reported, roomed, keptBy, kept};
 use card::Answer;
 use cards::land;
 use cards::mount;
 use cards::sync;
+use cards::unmount;
 use counts::Geo;
 use crossing::decoded;
 use crossing::encoded;
@@ -26,10 +27,14 @@ use crossing::report_bytes;
 use crossing::room_bytes;
 use edits::put;
 use edits::put_at;
+use edits::remove;
 use fresh::make;
 use looks::free;
+use looks::get;
 use reading::read;
+use reading::read_get;
 use sectors::Sector;
+use store::Outcome;
 
 // "make 1"
 #[no_mangle]
@@ -53,6 +58,14 @@ pub extern "C" fn store_read(card: &[u8], out: &mut [u8; 16]) -> u32
     r.number
 }
 
+// Reading's get: "1, 2, 5, 6, 10", over the files that a card shows.
+#[no_mangle]
+pub extern "C" fn store_read_get(card: &[u8], name: &[u8], out: &mut [u8]) -> Answer
+    ensures { λ r. ⌜ (r ≡ readGet (now (card .entry)) (now (name .entry)) (now (out .entry)) .answer) × (now (out .exit) ≡ readGet (now (card .entry)) (now (name .entry)) (now (out .entry)) .out) ⌝ }
+{
+    read_get(card, name, out)
+}
+
 // "mount 1, 2, 3"; a refused mount gives the closed session.
 #[no_mangle]
 pub extern "C" fn store_mount(card: &mut [u8], work: &mut [u8], session: &mut [u8; 24]) -> u32
@@ -73,6 +86,27 @@ pub extern "C" fn store_put(session: &[u8; 24], work: &mut [u8], name: &[u8], co
     let s = decoded(b);
     let a = put(s, work, name, content);
     a.number
+}
+
+// "remove 4, 2, 9, 5, 6"
+#[no_mangle]
+pub extern "C" fn store_remove(session: &[u8; 24], work: &mut [u8], name: &[u8]) -> u32
+    ensures { λ r. ⌜ (r ≡ remove (decoded (now (session .entry))) (now (work .entry)) (now (name .entry)) .answer .number) × (now (work .exit) ≡ remove (decoded (now (session .entry))) (now (work .entry)) (now (name .entry)) .image) ⌝ }
+{
+    let b = *session;
+    let s = decoded(b);
+    let a = remove(s, work, name);
+    a.number
+}
+
+// "get 4, 2, 5, 6, 10": the file's bytes fill the first of the output and are counted; the rest stays.
+#[no_mangle]
+pub extern "C" fn store_get(session: &[u8; 24], work: &[u8], name: &[u8], out: &mut [u8]) -> Answer
+    ensures { λ r. ⌜ (r ≡ get (decoded (now (session .entry))) (now (work .entry)) (now (name .entry)) (now (out .entry)) .answer) × (now (out .exit) ≡ get (decoded (now (session .entry))) (now (work .entry)) (now (name .entry)) (now (out .entry)) .out) ⌝ }
+{
+    let b = *session;
+    let s = decoded(b);
+    get(s, work, name, out)
 }
 
 // Put with a goal sector: "4, 2, 9, 5", 11, "7, 8"
@@ -107,6 +141,19 @@ pub extern "C" fn store_free(session: &[u8; 24], work: &[u8], out: &mut [u8; 8])
     f.number
 }
 
+// The session that a call gives goes to the host's bytes; a refusal leaves them as lent.
+fn keep(o: Outcome, session: &mut [u8; 24]) -> Answer
+    ensures { λ r. ⌜ (r ≡ o .answer) × (now (session .exit) ≡ keptBy (o .answer) (o .session) (now (session .entry))) ⌝ }
+{
+    let answer = o.answer;
+    if o.answer.number != 0 {
+        return answer;
+    }
+    let next = o.session;
+    *session = encoded(next);
+    answer
+}
+
 // "sync 4, 1, 2, 9", with the number of sectors written; on a refusal the session's bytes stay as lent.
 #[no_mangle]
 pub extern "C" fn store_sync_count(
@@ -119,13 +166,7 @@ pub extern "C" fn store_sync_count(
     let b = *session;
     let s = decoded(b);
     let o = sync(s, card, work);
-    let answer = o.answer;
-    if o.answer.number != 0 {
-        return answer;
-    }
-    let next = o.session;
-    *session = encoded(next);
-    answer
+    keep(o, session)
 }
 
 // The same call, its number alone.
@@ -135,6 +176,17 @@ pub extern "C" fn store_sync(session: &mut [u8; 24], card: &mut [u8], work: &mut
 {
     let a = store_sync_count(session, card, work);
     a.number
+}
+
+// "unmount 4, 1, 2", with the number of sectors its sync wrote; with 0 the session's bytes are the closed session, on a refusal as lent.
+#[no_mangle]
+pub extern "C" fn store_unmount(session: &mut [u8; 24], card: &mut [u8], work: &mut [u8]) -> Answer
+    ensures { λ r. ⌜ (r ≡ unmount (decoded (now (session .entry))) (now (card .entry)) (now (work .entry)) .answer) × (((now (session .exit) ≡ kept (unmount (decoded (now (session .entry))) (now (card .entry)) (now (work .entry))) (now (session .entry))) × ((now (card .exit) ≡ unmount (decoded (now (session .entry))) (now (card .entry)) (now (work .entry)) .card) × (now (work .exit) ≡ unmount (decoded (now (session .entry))) (now (card .entry)) (now (work .entry)) .work)))) ⌝ }
+{
+    let b = *session;
+    let s = decoded(b);
+    let o = unmount(s, card, work);
+    keep(o, session)
 }
 
 // "land 4, 1, 2, 11"

@@ -43,10 +43,16 @@ use Rattle.host.proofs.store_make.Kinds as store_make·is
 use Rattle.host.proofs.store_make.Reads as store_make
 use Rattle.host.proofs.store_read.Kinds as store_read·is
 use Rattle.host.proofs.store_read.Reads as store_read
+use Rattle.host.proofs.store_read_get.Kinds as store_read_get·is
+use Rattle.host.proofs.store_read_get.Reads as store_read_get
 use Rattle.host.proofs.store_mount.Kinds as store_mount·is
 use Rattle.host.proofs.store_mount.Reads as store_mount
 use Rattle.host.proofs.store_put.Kinds as store_put·is
 use Rattle.host.proofs.store_put.Reads as store_put
+use Rattle.host.proofs.store_remove.Kinds as store_remove·is
+use Rattle.host.proofs.store_remove.Reads as store_remove
+use Rattle.host.proofs.store_get.Kinds as store_get·is
+use Rattle.host.proofs.store_get.Reads as store_get
 use Rattle.host.proofs.store_free.Kinds as store_free·is
 use Rattle.host.proofs.store_free.Reads as store_free
 use Rattle.host.proofs.store_put_at.Kinds as store_put_at·is
@@ -55,6 +61,8 @@ use Rattle.host.proofs.store_sync.Kinds as store_sync·is
 use Rattle.host.proofs.store_sync.Reads as store_sync
 use Rattle.host.proofs.store_sync_count.Kinds as store_sync_count·is
 use Rattle.host.proofs.store_sync_count.Reads as store_sync_count
+use Rattle.host.proofs.store_unmount.Kinds as store_unmount·is
+use Rattle.host.proofs.store_unmount.Reads as store_unmount
 use Rattle.host.proofs.store_land.Kinds as store_land·is
 use Rattle.host.proofs.store_land.Reads as store_land
 
@@ -84,12 +92,16 @@ pub record Contracts : Type 0 where
   pub ofReadGet : Tight 3 read_get·is.ps read_get·is.r read_get.Pre read_get.Post (λ κs s. now (s .1 .1 .0) ∷ [])
   pub ofStoreMake : Tight 1 store_make·is.ps store_make·is.r store_make.Pre store_make.Post (λ κs s. now (s .1 .1 .1 .0) ∷ [])
   pub ofStoreRead : Tight 2 store_read·is.ps store_read·is.r store_read.Pre store_read.Post (λ κs s. now (s .1 .0) ∷ [])
+  pub ofStoreReadGet : Tight 3 store_read_get·is.ps store_read_get·is.r store_read_get.Pre store_read_get.Post (λ κs s. now (s .1 .1 .0) ∷ [])
   pub ofStoreMount : Tight 3 store_mount·is.ps store_mount·is.r store_mount.Pre store_mount.Post (λ κs s. now (s .1 .1 .0) ∷ now (s .0) ∷ now (s .1 .0) ∷ [])
   pub ofStorePut : Tight 4 store_put·is.ps store_put·is.r store_put.Pre store_put.Post (λ κs s. now (s .1 .0) ∷ [])
   pub ofStorePutAt : Tight 4 store_put_at·is.ps store_put_at·is.r store_put_at.Pre store_put_at.Post (λ κs s. now (s .1 .0) ∷ [])
+  pub ofStoreRemove : Tight 3 store_remove·is.ps store_remove·is.r store_remove.Pre store_remove.Post (λ κs s. now (s .1 .0) ∷ [])
+  pub ofStoreGet : Tight 4 store_get·is.ps store_get·is.r store_get.Pre store_get.Post (λ κs s. now (s .1 .1 .1 .0) ∷ [])
   pub ofStoreFree : Tight 3 store_free·is.ps store_free·is.r store_free.Pre store_free.Post (λ κs s. now (s .1 .1 .0) ∷ [])
   pub ofStoreSync : Tight 3 store_sync·is.ps store_sync·is.r store_sync.Pre store_sync.Post (λ κs s. now (s .0) ∷ now (s .1 .0) ∷ now (s .1 .1 .0) ∷ [])
   pub ofStoreSyncCount : Tight 3 store_sync_count·is.ps store_sync_count·is.r store_sync_count.Pre store_sync_count.Post (λ κs s. now (s .0) ∷ now (s .1 .0) ∷ now (s .1 .1 .0) ∷ [])
+  pub ofStoreUnmount : Tight 3 store_unmount·is.ps store_unmount·is.r store_unmount.Pre store_unmount.Post (λ κs s. now (s .0) ∷ now (s .1 .0) ∷ now (s .1 .1 .0) ∷ [])
   pub ofStoreLand : Tight 3 store_land·is.ps store_land·is.r store_land.Pre store_land.Post (λ κs s. now (s .1 .0) ∷ [])
 
 -- ---- the proof: a clause is one to four equations, each with what the definition gives on its right
@@ -135,11 +147,15 @@ contracts =
       ofReadGet = λ κs a. (tt, λ x y s t p q. two p q);
       ofStoreMake = λ κs a. (tt, λ x y s t p q. two p q);
       ofStoreRead = λ κs a. (tt, λ x y s t p q. two p q);
+      ofStoreReadGet = λ κs a. (tt, λ x y s t p q. two p q);
       ofStoreMount = λ κs a. (tt, λ x y s t p q. five p q);
       ofStorePut = λ κs a. (tt, λ x y s t p q. two p q);
       ofStorePutAt = λ κs a. (tt, λ x y s t p q. two p q);
+      ofStoreRemove = λ κs a. (tt, λ x y s t p q. two p q);
+      ofStoreGet = λ κs a. (tt, λ x y s t p q. two p q);
       ofStoreFree = λ κs a. (tt, λ x y s t p q. two p q);
       ofStoreSync = λ κs a. (tt, λ x y s t p q. five p q);
       ofStoreSyncCount = λ κs a. (tt, λ x y s t p q. five p q);
+      ofStoreUnmount = λ κs a. (tt, λ x y s t p q. five p q);
       ofStoreLand = λ κs a. (tt, λ x y s t p q. two p q);
     }

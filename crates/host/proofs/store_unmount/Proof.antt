@@ -1,0 +1,28 @@
+-- The call in the session that the bytes hold; its session goes to them, a refusal leaves them. Assumes nothing.
+use Rattle.crossing.specs.CrossingLaws.{unmount-kept}
+use borrow.Author.Needs.{needs}
+use Rattle.host.proofs.store_unmount.Statement.{statement}
+use Rattle.host.proofs.store_unmount.Tie as tie
+
+decoded-requires : tie.Need-decoded-requires
+decoded-requires c κs = search needs
+
+unmount-requires : tie.Need-unmount-requires
+unmount-requires c κs = search needs
+
+keep-requires : tie.Need-keep-requires
+keep-requires c κs = search needs
+
+same-length : tie.Need-same-length
+same-length c = search needs
+
+same-length-2 : tie.Need-same-length-2
+same-length-2 c = search needs
+
+returns : tie.Need-returns
+returns c = unmount-kept _ _ _ (c .before .before .before .before .before .before .before .before .before .decoded .ensures) (c .before .before .before .before .before .before .unmount .ensures) (c .keep .ensures)
+
+pub store-unmount-spec : {M : Type 1} → statement M
+store-unmount-spec =
+    tie.close
+    (tie.spec decoded-requires unmount-requires keep-requires same-length same-length-2 returns)
