@@ -7,15 +7,24 @@
 // session is 24 zeros. Any 24 bytes are taken: with state 0 they are the closed session whatever follows, and with a state above 2 an open session
 // that never fits. What reading a card gives crosses as 16 bytes, the words C, N, the file count and the clear bits; what free gives as 8, the words
 // free and waiting.
+//
+// For a bench that cuts the power inside a call there are store_mount_steps, store_sync_steps and store_unmount_steps: the call's tests, then its writes
+// as far as place k, and nothing else; no other buffer changes, and the card is as it would be if the call stopped there. Mount has two places: sector
+// 0, and a barrier, behind which everything written has landed. Sync's are sector 0, the S - T - 1 sectors past the table in rising order, a barrier, the
+// table sector, a barrier; a sector that does not differ is not written. Unmount's are sync's, and then sector 0. Past the last place nothing happens.
 ghost use mathlib.Core.Path.{_≡_};
+ghost use Rattle.card.specs.Plan.{doIt};
 ghost use Rattle.card.specs.Make.{make};
 ghost use Rattle.card.specs.Reading.{read, readGet};
 ghost use Rattle.store.specs.Edit.{put, putAt, remove};
 ghost use Rattle.store.specs.Look.{get, free};
-ghost use Rattle.store.specs.Mount.{mount};
-ghost use Rattle.store.specs.Sync.{land, sync, unmount};
+ghost use Rattle.store.specs.Mount.{mountPlan, mount};
+ghost use Rattle.store.specs.Sync.{bothPlan, land, sync, unmount};
 ghost use Rattle.crossing.specs.Crossing.{geoWith, decoded, encoded, reported, roomed, keptBy, kept};
+ghost use Rattle.crossing.specs.FirstSteps.{planNumber, mountFirst, syncFirst, unmountFirst};
 use card::Answer;
+use card::refusal;
+use card::success;
 use cards::land;
 use cards::mount;
 use cards::sync;
@@ -31,10 +40,15 @@ use edits::remove;
 use fresh::make;
 use looks::free;
 use looks::get;
+use mounting::mount_steps;
 use reading::read;
 use reading::read_get;
 use sectors::Sector;
+use session::Opened;
+use session::Session;
 use store::Outcome;
+use syncing::sync_steps;
+use syncing::unmount_steps;
 
 // "make 1"
 #[no_mangle]
@@ -198,4 +212,99 @@ pub extern "C" fn store_land(session: &[u8; 24], card: &mut [u8], work: &[u8], s
     let s = decoded(b);
     let a = land(s, card, work, Sector(sector));
     a.number
+}
+
+// ---- the first steps of a call
+
+// The number of mount's first test that fails, else 0.
+fn mount_number(card: &[u8], work: &[u8]) -> u32
+    ensures { λ r. ⌜ r ≡ planNumber (mountPlan (now (card .entry)) (now (work .entry))) ⌝ }
+{
+    if work.len() != card.len() {
+        return 1;
+    }
+    let shown = read(card);
+    if shown.number != 0 {
+        return shown.number;
+    }
+    if shown.n <= shown.c {
+        return 3;
+    }
+    0
+}
+
+// The number of the first of tests 1 and 2 of sync and unmount that fails, else 0.
+fn both_number(s: Opened, card: &[u8], work: &[u8]) -> u32
+    ensures { λ r. ⌜ r ≡ planNumber (bothPlan s (now (card .entry)) (now (work .entry)) (doIt 0 0)) ⌝ }
+{
+    if card.len() != 512 * (s.geo.s as usize) {
+        return 1;
+    }
+    let fit = fit::fits(s, work);
+    if !fit {
+        return 2;
+    }
+    0
+}
+
+// "mount 1, 2, 3", then its first k steps on the card; no session, and the working image is only measured.
+#[no_mangle]
+pub extern "C" fn store_mount_steps(card: &mut [u8], work: &[u8], k: u32) -> u32
+    ensures { λ r. ⌜ (r ≡ mountFirst (now (card .entry)) (now (work .entry)) k .answer .number) × (now (card .exit) ≡ mountFirst (now (card .entry)) (now (work .entry)) k .image) ⌝ }
+{
+    let n = mount_number(card, work);
+    if n != 0 {
+        return n;
+    }
+    mount_steps(card, k);
+    0
+}
+
+// "sync 4, 1, 2, 9", then its steps at its first k places, with the number of sectors written there.
+#[no_mangle]
+pub extern "C" fn store_sync_steps(
+    session: &[u8; 24],
+    card: &mut [u8],
+    work: &[u8],
+    k: u32,
+) -> Answer
+    ensures { λ r. ⌜ (r ≡ syncFirst (decoded (now (session .entry))) (now (card .entry)) (now (work .entry)) k .answer) × (now (card .exit) ≡ syncFirst (decoded (now (session .entry))) (now (card .entry)) (now (work .entry)) k .image) ⌝ }
+{
+    let b = *session;
+    let o = decoded(b);
+    let Session::Open(s) = o else {
+        return refusal(4);
+    };
+    let n = both_number(s, card, work);
+    if n != 0 {
+        return refusal(n);
+    }
+    if s.worn {
+        return refusal(9);
+    }
+    let written = sync_steps(s, card, work, k);
+    success(written)
+}
+
+// "unmount 4, 1, 2", then its steps at its first k places, with the number of sectors that its sync writes there.
+#[no_mangle]
+pub extern "C" fn store_unmount_steps(
+    session: &[u8; 24],
+    card: &mut [u8],
+    work: &[u8],
+    k: u32,
+) -> Answer
+    ensures { λ r. ⌜ (r ≡ unmountFirst (decoded (now (session .entry))) (now (card .entry)) (now (work .entry)) k .answer) × (now (card .exit) ≡ unmountFirst (decoded (now (session .entry))) (now (card .entry)) (now (work .entry)) k .image) ⌝ }
+{
+    let b = *session;
+    let o = decoded(b);
+    let Session::Open(s) = o else {
+        return refusal(4);
+    };
+    let n = both_number(s, card, work);
+    if n != 0 {
+        return refusal(n);
+    }
+    let written = unmount_steps(s, card, work, k);
+    success(written)
 }

@@ -65,6 +65,12 @@ use Rattle.host.proofs.store_unmount.Kinds as store_unmount·is
 use Rattle.host.proofs.store_unmount.Reads as store_unmount
 use Rattle.host.proofs.store_land.Kinds as store_land·is
 use Rattle.host.proofs.store_land.Reads as store_land
+use Rattle.host.proofs.store_mount_steps.Kinds as store_mount_steps·is
+use Rattle.host.proofs.store_mount_steps.Reads as store_mount_steps
+use Rattle.host.proofs.store_sync_steps.Kinds as store_sync_steps·is
+use Rattle.host.proofs.store_sync_steps.Reads as store_sync_steps
+use Rattle.host.proofs.store_unmount_steps.Kinds as store_unmount_steps·is
+use Rattle.host.proofs.store_unmount_steps.Reads as store_unmount_steps
 
 -- a contract of n lifetimes, parameters ps and result r asks nothing of its caller, and determines the result and what is `seen` at the end: the
 -- contents of every buffer that is lent to be written
@@ -103,6 +109,9 @@ pub record Contracts : Type 0 where
   pub ofStoreSyncCount : Tight 3 store_sync_count·is.ps store_sync_count·is.r store_sync_count.Pre store_sync_count.Post (λ κs s. now (s .0) ∷ now (s .1 .0) ∷ now (s .1 .1 .0) ∷ [])
   pub ofStoreUnmount : Tight 3 store_unmount·is.ps store_unmount·is.r store_unmount.Pre store_unmount.Post (λ κs s. now (s .0) ∷ now (s .1 .0) ∷ now (s .1 .1 .0) ∷ [])
   pub ofStoreLand : Tight 3 store_land·is.ps store_land·is.r store_land.Pre store_land.Post (λ κs s. now (s .1 .0) ∷ [])
+  pub ofStoreMountSteps : Tight 2 store_mount_steps·is.ps store_mount_steps·is.r store_mount_steps.Pre store_mount_steps.Post (λ κs s. now (s .0) ∷ [])
+  pub ofStoreSyncSteps : Tight 3 store_sync_steps·is.ps store_sync_steps·is.r store_sync_steps.Pre store_sync_steps.Post (λ κs s. now (s .1 .0) ∷ [])
+  pub ofStoreUnmountSteps : Tight 3 store_unmount_steps·is.ps store_unmount_steps·is.r store_unmount_steps.Pre store_unmount_steps.Post (λ κs s. now (s .1 .0) ∷ [])
 
 -- ---- the proof: a clause is one to four equations, each with what the definition gives on its right
 
@@ -158,4 +167,7 @@ contracts =
       ofStoreSyncCount = λ κs a. (tt, λ x y s t p q. five p q);
       ofStoreUnmount = λ κs a. (tt, λ x y s t p q. five p q);
       ofStoreLand = λ κs a. (tt, λ x y s t p q. two p q);
+      ofStoreMountSteps = λ κs a. (tt, λ x y s t p q. two p q);
+      ofStoreSyncSteps = λ κs a. (tt, λ x y s t p q. two p q);
+      ofStoreUnmountSteps = λ κs a. (tt, λ x y s t p q. two p q);
     }
