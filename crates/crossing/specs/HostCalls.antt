@@ -1,4 +1,4 @@
--- After mount and sync the bytes hold the session that the call gives, and a refusal leaves every lent byte. Assumes nothing.
+-- After mount, sync and unmount the bytes hold the session that the call gives. Assumes nothing.
 use mathlib.Core.Path.{_≡_, refl, ap, _∙_}
 use mathlib.Core.Bool.{Bool, true, false}
 use mathlib.Core.List.{List}
@@ -6,69 +6,33 @@ use mathlib.Core.Logic.{_≢_}
 use Prim.Native.Nat.{ℕ, _+_, _≤_, _<_}
 use native.Mathlib.Omega.{arith}
 use borrow.Author.Tests.{eq-eqb, ne-eqb}
-use lib.ListN.{replicate}
 use Rattle.sectors.specs.Sectors.{sec}
-use Rattle.counts.specs.declared.Geo.{Geo}
 use Rattle.counts.specs.Geometry.{gN, geoOk, geoOf}
 use Rattle.counts.specs.GeoLaws.{limits, table-inv}
 use Rattle.counts.specs.Stamps.{maxTx}
 use Rattle.card.specs.Plan.{doIt, refused, done}
 use Rattle.card.specs.PlanLaws.{go!, guard-num, passing}
-use Rattle.card.specs.Make.{make}
-use Rattle.card.specs.Reading.{read}
 use Rattle.card.specs.Sound.{sound}
 use Rattle.card.specs.SoundLaws.{shape-inv, sound-inv}
 use Rattle.session.specs.declared.Opened.{Opened}
 use Rattle.session.specs.declared.Session.{Session}
 use Rattle.session.specs.declared.Session.the-variants.{Closed, Open}
 use Rattle.session.specs.FitLaws.{Fit}
-use Rattle.store.specs.Edit.{put, putAt}
-use Rattle.store.specs.Look.{free}
 use Rattle.store.specs.Mount.{Ended, mountPlan, openedFrom, mountDone, mount}
 use Rattle.store.specs.Steps.{atTop}
-use Rattle.store.specs.Sync.{land, grown, syncDone, sync}
+use Rattle.store.specs.Sync.{grown, syncDone, sync, unmountDone, unmount}
 use Rattle.store.specs.Plans.{both-num, mount-few, mount-good, mount-num, sync-live}
-use Rattle.promises.specs.Refusals.{refusals}
-use Rattle.crossing.specs.Crossing.{decoded, encoded, reported, roomed, keptBy, kept}
-use Rattle.crossing.specs.SessionBytes.{InWords, closed-back, opened-back, closed-zeros}
-
--- ---- refusals
-
-pub make-stays : (g : Geo) (card : List ℕ) → make g card .answer .number ≢ 0 → make g card .image ≡ card
-make-stays g card n = refusals .ofMake g card n .0
-
-pub read-stays : (card out : List ℕ) → read card .number ≢ 0 → reported (read card) out ≡ out
-unfolding reported
-read-stays card out n = rw (ne-eqb (read card .number) 0 n)
-
--- "a refused mount returns a closed session"
-pub mount-stays : (card work : List ℕ) → mount card work .answer .number ≢ 0
-    → (encoded (mount card work .session) ≡ replicate 24 0) × (mount card work .card ≡ card) × (mount card work .work ≡ work)
-mount-stays card work n = let (s, c, w, z) = refusals .ofMount card work n in (ap encoded s ∙ closed-zeros, c, w)
-
--- put without a goal is the one with goal 0
-pub put-stays : (s : Session) (work n d : List ℕ) (goal : ℕ) → putAt s work n d goal .answer .number ≢ 0 → putAt s work n d goal .image ≡ work
-put-stays s work n d goal h = refusals .ofPut s work n d goal h .0
-
-pub land-stays : (s : Session) (card work : List ℕ) (i : ℕ) → land s card work i .answer .number ≢ 0 → land s card work i .image ≡ card
-land-stays s card work i h = refusals .ofLand s card work i h .0
-
-pub free-stays : (s : Session) (work out : List ℕ) → free s work .number ≢ 0 → roomed (free s work) out ≡ out
-unfolding roomed
-free-stays s work out n = rw (ne-eqb (free s work .number) 0 n)
+use Rattle.crossing.specs.Crossing.{decoded, encoded, keptBy, kept}
+use Rattle.crossing.specs.SessionBytes.{InWords, closed-back, opened-back}
 
 -- what store_sync and store_unmount leave in the session's bytes
-kept-refused : (e : Ended) (b : List ℕ) → e .answer .number ≢ 0 → kept e b ≡ b
+pub kept-refused : (e : Ended) (b : List ℕ) → e .answer .number ≢ 0 → kept e b ≡ b
 unfolding kept keptBy
 kept-refused e b n = rw (ne-eqb (e .answer .number) 0 n)
 
 kept-done : (e : Ended) (b : List ℕ) → e .answer .number ≡ 0 → kept e b ≡ encoded (e .session)
 unfolding kept keptBy
 kept-done e b n = rw (eq-eqb (e .answer .number) 0 n)
-
-pub sync-stays : (b card work : List ℕ) → sync (decoded b) card work .answer .number ≢ 0
-    → (kept (sync (decoded b) card work) b ≡ b) × (sync (decoded b) card work .card ≡ card) × (sync (decoded b) card work .work ≡ work)
-sync-stays b card work h = let (s, c, w, z) = refusals .ofSync (decoded b) card work h in (kept-refused _ b h, c, w)
 
 -- ---- the session that a call gives is the one that its bytes hold
 
@@ -115,3 +79,14 @@ sync-over (Open s) b card work h =
 -- after store_sync, refused or not
 pub sync-crosses : (b card work : List ℕ) → decoded (kept (sync (decoded b) card work) b) ≡ sync (decoded b) card work .session
 sync-crosses b card work = sync-over (decoded b) b card work refl
+
+unmount-over : (z : Session) (b card work : List ℕ) → decoded b ≡ z → decoded (kept (unmount z card work) b) ≡ unmount z card work .session
+unfolding unmount unmountDone refused done
+unmount-over Closed b card work h = ap decoded (kept-refused _ b (λ e. absurd (omega arith))) ∙ h
+unmount-over (Open s) b card work h =
+    passing (λ (r : Ended). decoded (kept r b) ≡ r .session) _ _ (both-num s card work (go! 0 0)) (λ k. ap decoded (kept-refused _ b (λ e. absurd (omega arith))) ∙ h)
+    (λ j a e. ap decoded (kept-done _ b refl) ∙ closed-back)
+
+-- after store_unmount, refused or not
+pub unmount-crosses : (b card work : List ℕ) → decoded (kept (unmount (decoded b) card work) b) ≡ unmount (decoded b) card work .session
+unmount-crosses b card work = unmount-over (decoded b) b card work refl

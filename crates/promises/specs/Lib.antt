@@ -5,6 +5,7 @@ pub mod NumbersWhole
 pub mod NumbersFile
 pub mod NumbersProved
 pub mod Refusals
+pub mod HostRefusals
 pub mod PlainCalls
 pub mod ListLaws
 pub mod ViewShows
