@@ -69,6 +69,9 @@ pub mod AlongProved
 pub mod CardRun
 pub mod Possible
 pub mod ReadsReads
+pub mod HostRuns
+pub mod HostRunsProved
+pub mod HostStops
 pub mod Fewer
 pub mod FewerProved
 pub mod Touched
