@@ -2,7 +2,7 @@
 use mathlib.Core.Path.{_≡_, refl, ap, _∙_}
 use mathlib.Core.List.{List}
 use mathlib.Core.Logic.{_⊎_, ⊎-elim, _≢_}
-use Prim.Native.Nat.{ℕ, _+_, _*_, _/_, _≤_, _<_}
+use Prim.Native.Nat.{ℕ, zero, suc, _+_, _*_, _/_, _≤_, _<_}
 use native.Mathlib.Omega.{arith}
 use lib.ListN.{length, set}
 use Rattle.counts.specs.TableLaws.{past-index, dir-data}
@@ -15,7 +15,7 @@ use Rattle.entries.specs.declared.Version.{Version}
 use Rattle.directory.specs.Directory.{sectorEntries, entriesOf, spotOf, setEntry}
 use Rattle.directory.specs.SpotLaws.{entry-length, entry-other, entry-here, spot-here, dir-set}
 use Rattle.apages.specs.Bits.{setRun}
-use Rattle.apages.specs.Index.{groupOf, indexIn, shownPage, pageAt, pageIn, changeBits}
+use Rattle.apages.specs.Index.{groupOf, indexIn, shownPage, pageAt, pageIn, changeRun, changeBits}
 use Rattle.apages.specs.PassLaws.{shown-before}
 use Rattle.apages.specs.MapLaws.{map-same}
 use Rattle.apages.specs.Remapped.{Paired, PairSame, Remapped, cut-map}
@@ -125,6 +125,16 @@ module _ (s : Opened) (j a k : ℕ) (v : Version) (work n d : List ℕ) (k₀ : 
         first = r .first ∙ two-low (g .t + 2 + 2 * q) (omega (arith, L .dirIs));
         second = r .second ∙ two-low (g .t + 3 + 2 * q) (omega (arith, L .dirIs));
       }
+
+  -- with no bit to change the index stays too
+  no-bits : (x y : ℕ) (img : List ℕ) → x ≡ 0 → y ≡ 0 → changeBits g (tpOf s work) (ownOf s) a x b y img ≡ img
+  unfolding changeBits changeRun
+  no-bits zero zero img u w = refl
+  no-bits zero (suc y) img u w = absurd (omega arith)
+  no-bits (suc x) y img u w = absurd (omega arith)
+
+  pub index-kept : k ≡ 0 → m ≡ 0 → indexIn g (sec now) ≡ indexAt s work
+  index-kept x y = ap (λ (img : List ℕ). indexIn g (sec img)) (edit-open ∙ no-bits k m two x y) ∙ index-two
 
   -- the pages that the cut view shows
   pub page-kept : (p : ℕ) → p < gP g → sec now (shownPage (tcOf s work) (groupOf (indexAt s work) p)) ≡ sec work (shownPage (tcOf s work) (groupOf (indexAt s work) p))

@@ -1,4 +1,5 @@
--- In every history the sectors that differ are few: what the changes touched, the index, and of each pair the page that the cut view does not show. Assumes nothing.
+-- In every history the sectors that differ are few: what the changes marked, the index where they marked a pair, and of each marked pair the page that the cut view does
+-- not show. Assumes nothing.
 use mathlib.Core.Path.{_≡_, refl, sym, _∙_}
 use mathlib.Core.Bool.{Bool, true, false}
 use mathlib.Core.List.{List}
@@ -7,8 +8,8 @@ use native.Mathlib.Omega.{arith}
 use native.Mathlib.Decide.{ℕ-discrete, decLt}
 use Rattle.words.specs.Lists.{eqList}
 use Rattle.words.specs.EveryMore.{eqList-refl}
-use Rattle.sums.specs.Sums.{total, inRun}
-use Rattle.sums.specs.SumLaws.{total-le, total-same, total-add, total-zero}
+use Rattle.sums.specs.Sums.{bit, total, inRun}
+use Rattle.sums.specs.SumLaws.{total-le, total-add, total-zero}
 use Rattle.sectors.specs.Sectors.{sec, differs, unlike}
 use Rattle.counts.specs.declared.Geo.{Geo}
 use Rattle.counts.specs.Geometry.{gP, gDir, tableOf}
@@ -17,16 +18,15 @@ use Rattle.apages.specs.Index.{groupOf, indexIn, shownPage}
 use Rattle.apages.specs.PassLaws.{shown-range, index-inv}
 use Rattle.card.specs.SoundLaws.{sound-view}
 use Rattle.session.specs.declared.Opened.{Opened}
-use Rattle.session.specs.declared.Session.the-variants.{Open}
 use Rattle.promises.specs.PlainList.{Item}
 use Rattle.promises.specs.History.{Pending}
-use Rattle.promises.specs.Inv.{mk}
 use Rattle.promises.specs.Play.{top-mem}
 use Rattle.promises.specs.State.{Live}
 use Rattle.promises.specs.Steps.{work-keeps}
-use Rattle.promises.specs.Fewer.{differsAt, differing}
+use Rattle.promises.specs.Fewer.{differsAt, differing, Marks, counted, someOf}
 use Rattle.promises.specs.FewerProved.{at-low, at-past}
-use Rattle.promises.specs.Touched.{OneValue, Touched, run-few, run-here}
+use Rattle.promises.specs.Touched.{OneValue, Unmarked, neither}
+use Rattle.promises.specs.MarksFew.{run-few, run-here}
 
 -- ---- a sector that does not differ
 
@@ -42,29 +42,42 @@ differs-one card work i = go (eqList (sec card i) (sec work i))
     go true = omega arith
     go false = omega arith
 
--- ---- one sector of each of n pairs
+-- ---- one sector of each marked pair below n
 
-each : (ℕ → ℕ) → ℕ → ℕ → ℕ
-each o zero i = 0
-each o (suc q) i = each o q i + inRun (o q) 1 i
+each : (ℕ → ℕ) → (ℕ → Bool) → ℕ → ℕ → ℕ
+each o f zero i = 0
+each o f (suc q) i = each o f q i + inRun (o q) (bit (f q)) i
 
-each-few : (o : ℕ → ℕ) (n S : ℕ) → total (each o n) S ≤ n
+each-few : (o : ℕ → ℕ) (f : ℕ → Bool) (n S : ℕ) → total (each o f n) S ≤ counted f n
+unfolding each counted total
+each-few o f zero S = omega (arith, total-zero S)
+each-few o f (suc q) S =
+    let x = total-add (each o f q) (inRun (o q) (bit (f q))) (λ i. each o f q i + inRun (o q) (bit (f q)) i) S (λ i l. refl) in
+    let y : total (each o f q) S ≤ total (λ i. bit (f i)) q = (unfold counted in each-few o f q S) in
+    omega (arith, run-few (o q) (bit (f q)) S)
+
+each-here : (o : ℕ → ℕ) (f : ℕ → Bool) (n q : ℕ) → q < n → f q ≡ true → 1 ≤ each o f n (o q)
 unfolding each
-each-few o zero S = omega (arith, total-zero S)
-each-few o (suc q) S = let x = total-add (each o q) (inRun (o q) 1) (λ i. each o q i + inRun (o q) 1 i) S (λ i l. refl) in omega (arith, each-few o q S, run-few (o q) 1 S)
-
-each-here : (o : ℕ → ℕ) (n q : ℕ) → q < n → 1 ≤ each o n (o q)
-unfolding each
-each-here o zero q h = absurd (omega arith)
-each-here o (suc n) q h = go (ℕ-discrete q n) (λ l. each-here o n q l)
+each-here o f zero q h e = absurd (omega arith)
+each-here o f (suc n) q h e = go (ℕ-discrete q n) (λ l. each-here o f n q l e)
   where
-    go : Dec (q ≡ n) → (q < n → 1 ≤ each o n (o q)) → 1 ≤ each o n (o q) + inRun (o n) 1 (o q)
-    go (yes e) f = rw e (omega (arith, run-here (o n)))
-    go (no e) f = let l : q < n = omega arith in omega (arith, f l)
+    go : Dec (q ≡ n) → (q < n → 1 ≤ each o f n (o q)) → 1 ≤ each o f n (o q) + inRun (o n) (bit (f n)) (o q)
+    go (yes z) i = let t : f n ≡ true = rw z at e in rw (z, t) (omega (arith, run-here (o n)))
+    go (no z) i = let l : q < n = omega arith in omega (arith, i l)
+
+-- none is marked
+some-none : (f : ℕ → Bool) (n : ℕ) → someOf f n ≡ false → (q : ℕ) → q < n → f q ≡ false
+unfolding someOf
+some-none f zero h q l = absurd (omega arith)
+some-none f (suc n) h q l = let (x, y) = neither (someOf f n) (f n) h in go y (ℕ-discrete q n) (λ k. some-none f n x q k)
+  where
+    go : f n ≡ false → Dec (q ≡ n) → (q < n → f q ≡ false) → f q ≡ false
+    go y (yes e) i = rw e y
+    go y (no o) i = i (omega arith)
 
 -- ---- a live session
 
-module _ (s : Opened) (card work : List ℕ) (p : Pending) (m : List Item) (V₀ : Live s card work p m) (c : ℕ) (T : Touched (mk card work (Open s) p m) c) where
+module _ (s : Opened) (card work : List ℕ) (p : Pending) (m : List Item) (V₀ : Live s card work p m) (M : Marks) (T : Unmarked s p M) where
   abbrev g : Geo
   g = s .geo
 
@@ -95,10 +108,10 @@ module _ (s : Opened) (card work : List ℕ) (p : Pending) (m : List Item) (V₀
 
   -- what a sector that differs may be
   bound-at : ℕ → ℕ
-  bound-at i = T .hits i + inRun (g .t + 1) 1 i + each other (gP g) i
+  bound-at i = bit (M .sectors i) + inRun (g .t + 1) (bit (someOf (M .pages) (gP g))) i + each other (M .pages) (gP g) i
 
-  paged : (i : ℕ) → g .t + 2 ≤ i → i < gDir g → differs card work i ≤ each other (gP g) i
-  paged i lo hi = go (ℕ-discrete i (shows q))
+  paged : (i : ℕ) → g .t + 2 ≤ i → i < gDir g → differs card work i ≤ each other (M .pages) (gP g) i
+  paged i lo hi = go (M .pages q) refl (ℕ-discrete i (shows q)) (ℕ-discrete i (g .t + 2 + 2 * q))
     where
       q : ℕ
       q = (i - (g .t + 2)) / 2
@@ -106,44 +119,52 @@ module _ (s : Opened) (card work : List ℕ) (p : Pending) (m : List Item) (V₀
       l : q < gP g
       l = omega (arith, dir-is g)
 
-      go : Dec (i ≡ shows q) → differs card work i ≤ each other (gP g) i
-      go (yes e) = let z : differs card work i ≡ 0 = rw e (page-same q l) in omega arith
-      go (no o) =
+      go : (b : Bool) → M .pages q ≡ b → Dec (i ≡ shows q) → Dec (i ≡ g .t + 2 + 2 * q) → differs card work i ≤ each other (M .pages) (gP g) i
+      go false z d₁ (yes e) = let k : differs card work i ≡ 0 = rw e (equal _ (T .page q l z .0)) in omega arith
+      go false z d₁ (no e) = let f : i ≡ g .t + 3 + 2 * q = omega arith in let k : differs card work i ≡ 0 = rw f (equal _ (T .page q l z .1)) in omega arith
+      go true z (yes e) d₂ = let k : differs card work i ≡ 0 = rw e (page-same q l) in omega arith
+      go true z (no o) d₂ =
           let r = shows-range q l in
           let e : other q ≡ i = (unfold other in omega (arith, r .0, r .1)) in
-          let h : 1 ≤ each other (gP g) i = rw e at (each-here other (gP g) q l) in
+          let h : 1 ≤ each other (M .pages) (gP g) i = rw e at (each-here other (M .pages) (gP g) q l z) in
           omega (arith, differs-one card work i)
+
+  at-index : differs card work (g .t + 1) ≤ inRun (g .t + 1) (bit (someOf (M .pages) (gP g))) (g .t + 1)
+  at-index = go (someOf (M .pages) (gP g)) refl
+    where
+      go : (b : Bool) → someOf (M .pages) (gP g) ≡ b → differs card work (g .t + 1) ≤ inRun (g .t + 1) (bit b) (g .t + 1)
+      go true z = omega (arith, run-here (g .t + 1), differs-one card work (g .t + 1))
+      go false z = let k = equal (g .t + 1) (T .index (some-none (M .pages) (gP g) z)) in omega arith
+
+  at-rest : (i : ℕ) → gDir g ≤ i → differs card work i ≤ bit (M .sectors i)
+  at-rest i lo = go (M .sectors i) refl
+    where
+      go : (b : Bool) → M .sectors i ≡ b → differs card work i ≤ bit b
+      go true z = differs-one card work i
+      go false z = let k = equal i (T .sector i lo z) in omega arith
 
   past-at : (i : ℕ) → g .t < i → differs card work i ≤ bound-at i
   unfolding bound-at
-  past-at i h = go (ℕ-discrete i (g .t + 1)) (decLt i (gDir g)) (ℕ-discrete (T .hits i) 0)
+  past-at i h = go (ℕ-discrete i (g .t + 1)) (decLt i (gDir g))
     where
-      go : Dec (i ≡ g .t + 1) → Dec (i < gDir g) → Dec (T .hits i ≡ 0) → differs card work i ≤ T .hits i + inRun (g .t + 1) 1 i + each other (gP g) i
-      go (yes e) d₁ d₂ = rw e (omega (arith, run-here (g .t + 1), differs-one card work (g .t + 1)))
-      go (no e) (yes l) d₂ = let k = paged i (omega arith) l in omega arith
-      go (no e) (no l) (yes z) = let k : differs card work i ≡ 0 = equal i (T .same .0 i (omega arith) z) in omega arith
-      go (no e) (no l) (no z) = omega (arith, differs-one card work i)
+      go : Dec (i ≡ g .t + 1) → Dec (i < gDir g) → differs card work i ≤ bit (M .sectors i) + inRun (g .t + 1) (bit (someOf (M .pages) (gP g))) i + each other (M .pages) (gP g) i
+      go (yes e) d₁ = rw e (omega (arith, at-index))
+      go (no e) (yes l) = let k = paged i (omega arith) l in omega arith
+      go (no e) (no l) = let k = at-rest i (omega arith) in omega arith
 
   at-each : (i : ℕ) → Dec (g .t < i) → differsAt g card work i ≤ bound-at i
   at-each i (yes h) = rw (at-past g card work i h) (past-at i h)
   at-each i (no h) = let e : differsAt g card work i ≡ 0 = at-low g card work i (omega arith) (head-same 0 (omega arith)) in omega arith
 
-  bound-total : (S : ℕ) → total bound-at S ≤ c + gP g + 1
+  bound-total : (S : ℕ) → total bound-at S ≤ counted (M .sectors) S + counted (M .pages) (gP g) + bit (someOf (M .pages) (gP g))
   unfolding bound-at
   bound-total S =
-      let x = total-add (T .hits) (inRun (g .t + 1) 1) (λ i. T .hits i + inRun (g .t + 1) 1 i) S (λ i l. refl) in
-      let y = total-add (λ i. T .hits i + inRun (g .t + 1) 1 i) (each other (gP g)) (λ i. T .hits i + inRun (g .t + 1) 1 i + each other (gP g) i) S (λ i l. refl) in
-      omega (arith, T .few S, run-few (g .t + 1) 1 S, each-few other (gP g) S)
+      let some = bit (someOf (M .pages) (gP g)) in
+      let x = total-add (λ i. bit (M .sectors i)) (inRun (g .t + 1) some) (λ i. bit (M .sectors i) + inRun (g .t + 1) some i) S (λ i l. refl) in
+      let y = total-add (λ i. bit (M .sectors i) + inRun (g .t + 1) some i) (each other (M .pages) (gP g)) (λ i. bit (M .sectors i) + inRun (g .t + 1) some i + each other (M .pages) (gP g) i) S (λ i l. refl) in
+      let z : counted (M .sectors) S ≡ total (λ i. bit (M .sectors i)) S = (unfold counted in refl) in
+      omega (arith, run-few (g .t + 1) some S, each-few other (M .pages) (gP g) S)
 
-  pub few-differ : differing g card work ≤ c + gP g + 1
+  pub few-differ : differing g card work ≤ counted (M .sectors) (g .s) + counted (M .pages) (gP g) + bit (someOf (M .pages) (gP g))
   unfolding differing
   few-differ = let h = total-le (differsAt g card work) bound-at (g .s) (λ i l. at-each i (decLt (g .t) i)) in omega (arith, bound-total (g .s))
-
-  -- with no change none
-  none-at : c ≡ 0 → (i : ℕ) → Dec (g .t < i) → differsAt g card work i ≡ 0
-  none-at z i (yes h) = at-past g card work i h ∙ equal i (T .same .1 z i)
-  none-at z i (no h) = at-low g card work i (omega arith) (head-same 0 (omega arith))
-
-  pub none-differ : c ≡ 0 → differing g card work ≡ 0
-  unfolding differing
-  none-differ z = total-same (differsAt g card work) (λ i. 0) (g .s) (λ i l. none-at z i (decLt (g .t) i)) ∙ total-zero (g .s)

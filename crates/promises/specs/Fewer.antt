@@ -1,22 +1,25 @@
 -- Document 02, "Fewer writes at sync", stated: what sync and unmount leave, and how many writes they report. A reader needs both documents and this file. Assumes nothing.
 use mathlib.Core.Path.{_≡_}
-use mathlib.Core.Bool.{true, false, not, cond, _&&_}
+use mathlib.Core.Bool.{Bool, true, false, not, cond, _&&_, _||_}
 use mathlib.Core.List.{List, []}
-use Prim.Native.Nat.{ℕ, _+_, _≤_}
-use lib.Dec.{leb}
+use Prim.Native.Nat.{ℕ, zero, suc, _+_, _/_, _≤_}
+use lib.Dec.{leb, ltb, eqb}
 use lib.ListN.{length}
-use Rattle.sums.specs.Sums.{total}
-use Rattle.sectors.specs.Sectors.{applySteps, differs}
+use Rattle.sums.specs.Sums.{bit, total}
+use Rattle.sectors.specs.Sectors.{sec, applySteps, differs}
 use Rattle.counts.specs.declared.Geo.{Geo}
 use Rattle.counts.specs.Geometry.{gP}
 use Rattle.entries.specs.Entries.{sectorsFor}
-use Rattle.card.specs.Plan.{guard, doIt, ended, refused, done}
+use Rattle.directory.specs.Directory.{spotOf}
+use Rattle.card.specs.Plan.{Plan, guard, doIt, ended, refused, done}
+use Rattle.card.specs.Files.{runAt}
 use Rattle.session.specs.declared.Opened.{Opened}
 use Rattle.session.specs.declared.Session.{Session}
 use Rattle.session.specs.declared.Session.the-variants.{Closed, Open}
+use Rattle.session.specs.Views.{presentTable}
 use Rattle.store.specs.Steps.{allSteps, allDown, atTop, syncWork, unmountWork}
 use Rattle.store.specs.Mount.{Ended}
-use Rattle.store.specs.Edit.{putAt, remove}
+use Rattle.store.specs.Edit.{putPlan, putAt, removePlan, remove}
 use Rattle.store.specs.Sync.{bothPlan, grown, sync, unmount}
 use Rattle.promises.specs.History.{World, Call, makeC, mountC, syncC, unmountC, putC, removeC, landC, getC, listC, freeC, byNumber, Reach, fresh, call, cut, cutIn}
 
@@ -98,3 +101,75 @@ pub record Bounds : Type 0 where
   pub ofUnmount : {w : World} (r : Reach w) → unmount (w .session) (w .card) (w .work) .answer .count ≤ changes r + pairsOf (w .session) + 2
   pub noChange : {w : World} (r : Reach w) → changes r ≡ 0 → sync (w .session) (w .card) (w .work) .answer .number ≡ 0
       → sync (w .session) (w .card) (w .work) .answer .count ≡ 1
+
+-- ---- closer than that: each sector counts once, a page only where a bit of it changed, the index only where there is such a page
+
+-- sectors and pages, each as a test
+pub record Marks : Type 0 where
+  pub sectors : ℕ → Bool
+  pub pages : ℕ → Bool
+
+abbrev pub noMarks : Marks
+noMarks = record { sectors = λ i. false; pages = λ q. false }
+
+-- the sectors that a change writes, index and pages aside: that of its entry, and the k sectors of its content from a on
+unfoldable pub hitBy : Opened → ℕ → ℕ → ℕ → ℕ → Bool
+hitBy s j a k i = eqb i (spotOf (s .geo) j .sector) || (leb a i && ltb i (a + k))
+
+-- page q has k sectors from a on; no page has none
+unfoldable pub pageHas : ℕ → ℕ → ℕ → Bool
+pageHas a k q = ltb 0 k && eqb q (a / 4096)
+
+-- page q has a bit that the change makes another: one of its content, or of the earlier sectors
+unfoldable pub bitsIn : Opened → List ℕ → ℕ → ℕ → ℕ → ℕ → Bool
+bitsIn s work j a k q = let e = runAt (s .geo) (presentTable s (sec work)) work j in pageHas a k q || pageHas (e .start .0) (e .sectors) q
+
+-- the marks m, and those of a change of k sectors where its plan goes through
+unfoldable pub marked : Opened → List ℕ → ℕ → Plan → Marks → Marks
+marked s work k p m = ended p (λ n. m) (λ j a. record { sectors = λ i. hitBy s j a k i || m .sectors i; pages = λ q. bitsIn s work j a k q || m .pages q })
+
+unfoldable pub putMarks : Session → List ℕ → List ℕ → List ℕ → ℕ → Marks → Marks
+putMarks Closed work n d goal m = m
+putMarks (Open s) work n d goal m = marked s work (sectorsFor (length d)) (putPlan s work n d goal) m
+
+unfoldable pub removeMarks : Session → List ℕ → List ℕ → Marks → Marks
+removeMarks Closed work n m = m
+removeMarks (Open s) work n m = marked s work 0 (removePlan s work n) m
+
+-- "since the last sync or mount": what is marked after a call, from what was marked before
+unfoldable pub marksBy : Call → World → Marks → Marks
+marksBy (makeC g) w m = m
+marksBy mountC w m = noMarks
+marksBy syncC w m = byNumber (sync (w .session) (w .card) (w .work) .answer .number) noMarks m
+marksBy unmountC w m = byNumber (unmount (w .session) (w .card) (w .work) .answer .number) noMarks m
+marksBy (putC name d goal) w m = putMarks (w .session) (w .work) name d goal m
+marksBy (removeC name) w m = removeMarks (w .session) (w .work) name m
+marksBy (landC i) w m = m
+marksBy (getC name out) w m = m
+marksBy (listC lines) w m = m
+marksBy freeC w m = m
+
+unfoldable pub marks : {w : World} → Reach w → Marks
+marks (fresh g work ok) = noMarks
+marks (call {w} r c) = marksBy c w (marks r)
+marks (cut r card work l) = noMarks
+marks (cutIn r c n card work l) = noMarks
+
+-- how many of the numbers below n are marked, and whether one is
+unfoldable pub counted : (ℕ → Bool) → ℕ → ℕ
+counted f n = total (λ i. bit (f i)) n
+
+unfoldable pub someOf : (ℕ → Bool) → ℕ → Bool
+someOf f zero = false
+someOf f (suc n) = someOf f n || f n
+
+-- the marked sectors and pages, the index where there is such a page, and the table sector
+unfoldable pub closerOf : Marks → Session → ℕ
+closerOf m Closed = 0
+closerOf m (Open s) = counted (m .sectors) (s .geo .s) + counted (m .pages) (gP (s .geo)) + bit (someOf (m .pages) (gP (s .geo))) + 1
+
+pub record Closer : Type 0 where
+  pub ofSync : {w : World} (r : Reach w) → sync (w .session) (w .card) (w .work) .answer .count ≤ closerOf (marks r) (w .session)
+  pub ofUnmount : {w : World} (r : Reach w) → unmount (w .session) (w .card) (w .work) .answer .count ≤ closerOf (marks r) (w .session)
+  -- it is never above the bound of document 02
+  pub within : {w : World} (r : Reach w) → closerOf (marks r) (w .session) ≤ changes r + pairsOf (w .session) + 2

@@ -76,6 +76,7 @@ pub mod Fewer
 pub mod FewerProved
 pub mod Touched
 pub mod TouchedAll
+pub mod MarksFew
 pub mod FewDiffer
 pub mod BoundProved
 pub mod TrialsCard

@@ -1,43 +1,48 @@
--- Which sectors the puts and removes since the latest sync or mount touched: every other one may hold one value only. Assumes nothing.
+-- Which sectors and pages the puts and removes since the latest sync or mount marked: what is not marked may hold one value only. Assumes nothing.
 use mathlib.Core.Path.{_≡_, refl, sym, _∙_}
+use mathlib.Core.Bool.{Bool, true, false, _&&_, _||_}
 use mathlib.Core.List.{List, [], _∷_, List·Memᴰ, List·Memᴰ·not-nil}
-use mathlib.Core.Logic.{_⊎_, inl, inr, ⊎-elim}
-use Prim.Native.Nat.{ℕ, _+_, _≤_, _<_}
+use mathlib.Core.Logic.{_⊎_, inl, inr}
+use Prim.Native.Nat.{ℕ, zero, suc, _+_, _*_, _/_, _≤_, _<_}
 use native.Mathlib.Omega.{arith}
-use Rattle.sums.specs.Sums.{total, inRun}
-use Rattle.sums.specs.SumLaws.{total-add, total-run, total-zero, place}
+use borrow.Author.Tests.{eqb-false, eq-eqb, le-leb, lt-ltb}
+use lib.Dec.{leb, ltb, eqb}
+use Rattle.words.specs.BoolLaws.{falsum, join}
 use Rattle.sectors.specs.Sectors.{sec}
 use Rattle.counts.specs.declared.Geo.{Geo}
-use Rattle.counts.specs.Geometry.{gDir}
+use Rattle.counts.specs.Geometry.{gP, gDir}
 use Rattle.counts.specs.TableLaws.{past-index}
 use Rattle.entries.specs.declared.Version.{Version}
 use Rattle.directory.specs.Directory.{spotOf}
+use Rattle.apages.specs.Index.{indexIn}
+use Rattle.card.specs.Files.{runAt}
 use Rattle.session.specs.declared.Opened.{Opened}
 use Rattle.session.specs.declared.Session.{Session}
 use Rattle.session.specs.declared.Session.the-variants.{Closed, Open}
+use Rattle.session.specs.Views.{presentTable}
+use Rattle.session.specs.FitLaws.{present-live}
 use Rattle.store.specs.Edit.{editWork}
 use Rattle.promises.specs.PlainList.{Item}
-use Rattle.promises.specs.History.{Pending, newest, settled, allWritten, World}
-use Rattle.promises.specs.Ready.{Ready}
-use Rattle.promises.specs.Change.{left-alone}
+use Rattle.promises.specs.History.{Pending, newest, settled, allWritten}
+use Rattle.promises.specs.Ready.{oldRun, Ready, old-room}
+use Rattle.promises.specs.Change.{left-alone, pair-kept, index-kept}
 use Rattle.promises.specs.Play.{mem-cases, mem-one, top-mem}
 use Rattle.promises.specs.State.{Live}
-use Rattle.promises.specs.Inv.{mk}
+use Rattle.promises.specs.Fewer.{Marks, hitBy, pageHas, bitsIn}
 
 -- all that a sector may hold at a cut is one value
 abbrev pub OneValue : List (List ℕ) → Type 0
 OneValue l = (x y : List ℕ) → List·Memᴰ x l → List·Memᴰ y l → x ≡ y
 
--- a directory or data sector that no change hit, and with no change every sector
-abbrev pub SameOf : Session → Pending → ℕ → (ℕ → ℕ) → Type 0
-SameOf Closed p n hits = Unit
-SameOf (Open s) p n hits = ((i : ℕ) → gDir (s .geo) ≤ i → hits i ≡ 0 → OneValue (p i)) × (n ≡ 0 → (i : ℕ) → OneValue (p i))
+-- what is not marked: a directory or data sector, both pages of a pair, and the index where no pair is
+pub record Unmarked (s : Opened) (p : Pending) (m : Marks) : Type 0 where
+  pub sector : (i : ℕ) → gDir (s .geo) ≤ i → m .sectors i ≡ false → OneValue (p i)
+  pub page : (q : ℕ) → q < gP (s .geo) → m .pages q ≡ false → OneValue (p (s .geo .t + 2 + 2 * q)) × OneValue (p (s .geo .t + 3 + 2 * q))
+  pub index : ((q : ℕ) → q < gP (s .geo) → m .pages q ≡ false) → OneValue (p (s .geo .t + 1))
 
--- n bounds how often the changes hit sectors in all
-pub record Touched (w : World) (n : ℕ) : Type 0 where
-  pub hits : ℕ → ℕ
-  pub few : (S : ℕ) → total hits S ≤ n
-  pub same : SameOf (w .session) (w .pending) n hits
+abbrev pub Touched : Session → Pending → Marks → Type 0
+Touched Closed p m = Unit
+Touched (Open s) p m = Unmarked s p m
 
 -- ---- nothing is pending
 
@@ -50,28 +55,19 @@ unfolding newest
 one-newest [] x y a b = absurd (List·Memᴰ·not-nil a)
 one-newest (z ∷ l) x y a b = let e = mem-one a in let f = mem-one b in cc
 
-pub touched-none : (w : World) → ((i : ℕ) → OneValue (w .pending i)) → Touched w 0
-touched-none w h = record { hits = λ i. 0; few = λ S. omega (arith, total-zero S); same = go (w .session) }
-  where
-    go : (o : Session) → SameOf o (w .pending) 0 (λ i. 0)
-    go Closed = tt
-    go (Open s) = ((λ i lo z. h i), (λ z i. h i))
+pub touched-none : (o : Session) (p : Pending) (m : Marks) → ((i : ℕ) → OneValue (p i)) → Touched o p m
+touched-none Closed p m h = tt
+touched-none (Open s) p m h = record { sector = λ i lo z. h i; page = λ q l z. (h _, h _); index = λ z. h _ }
 
--- a world with no session
-pub touched-closed : (card work : List ℕ) (p : Pending) (m : List Item) (n : ℕ) → Touched (mk card work Closed p m) n
-touched-closed card work p m n = record { hits = λ i. 0; few = λ S. omega (arith, total-zero S); same = tt }
+-- ---- one change marks its directory sector and its run, and the pages of its run and of the earlier one
 
--- ---- one change hits its directory sector and its run
+-- neither of two tests
+pub neither : (a b : Bool) → (a || b) ≡ false → (a ≡ false) × (b ≡ false)
+neither true b h = falsum (sym h)
+neither false b h = (refl, h)
 
-in-run : (a n i : ℕ) → inRun a n i ≡ 0 → ¬ ((a ≤ i) × (i < a + n))
-in-run a n i z q = ⊎-elim (λ w. omega (arith, w .0, q .0)) (⊎-elim (λ w. omega (arith, w .2)) (λ w. omega (arith, w .1, q .1))) (place a n i)
-
--- the number of hits of a run
-pub run-few : (a n S : ℕ) → total (inRun a n) S ≤ n
-run-few a n S = omega (arith, total-run a n S)
-
-pub run-here : (a : ℕ) → inRun a 1 a ≡ 1
-run-here a = ⊎-elim (λ w. absurd (omega (arith, w .0))) (⊎-elim (λ w. w .2) (λ w. absurd (omega (arith, w .1)))) (place a 1 a)
+not-both : (a b : Bool) → (a && b) ≡ false → ¬ ((a ≡ true) × (b ≡ true))
+not-both a b h (x, y) = falsum (sym h ∙ join a b x y)
 
 module _ (s : Opened) (j a k : ℕ) (v : Version) (card work n d : List ℕ) (p : Pending) (m : List Item) (R : Ready s j a k v work n d (sec work)) (V₀ : Live s card work p m) where
   abbrev g : Geo
@@ -80,13 +76,33 @@ module _ (s : Opened) (j a k : ℕ) (v : Version) (card work n d : List ℕ) (p 
   abbrev now : List ℕ
   now = editWork s j a k v work n d
 
-  abbrev d₀ : ℕ
-  d₀ = spotOf g j .sector
-
   -- a sector that it does not hit
-  kept : (i : ℕ) → gDir g ≤ i → inRun d₀ 1 i ≡ 0 → inRun a k i ≡ 0 → sec now i ≡ sec work i
-  kept i lo x y =
-      left-alone s j a k v work n d (sec work) R i (λ e. in-run d₀ 1 i x (omega (arith, e), omega (arith, e))) (λ e. omega (arith, e, past-index g)) (λ q. omega (arith, q .1)) (in-run a k i y)
+  not-hit : (i : ℕ) → gDir g ≤ i → hitBy s j a k i ≡ false → sec now i ≡ sec work i
+  unfolding hitBy
+  not-hit i lo z =
+      let (x, y) = neither (eqb i (spotOf g j .sector)) (leb a i && ltb i (a + k)) z in
+      left-alone s j a k v work n d (sec work) R i (eqb-false i (spotOf g j .sector) x) (λ e. omega (arith, e, past-index g)) (λ q. omega (arith, q .1))
+      (λ q. not-both (leb a i) (ltb i (a + k)) y (le-leb a i (q .0), lt-ltb i (a + k) (q .1)))
+
+  -- a page that has none of a run
+  not-in : (b l q : ℕ) → pageHas b l q ≡ false → ¬ ((0 < l) × (q ≡ b / 4096))
+  unfolding pageHas
+  not-in b l q z (x, y) = not-both (ltb 0 l) (eqb q (b / 4096)) z (lt-ltb 0 l x, eq-eqb q (b / 4096) y)
+
+  -- the earlier sectors are those of the present view
+  earlier : runAt g (presentTable s (sec work)) work j ≡ oldRun s j work
+  unfolding runAt
+  earlier = rw (present-live s (sec work) (R .live))
+
+  no-bit : (q : ℕ) → bitsIn s work j a k q ≡ false → ¬ ((0 < k) × (q ≡ a / 4096)) × ¬ ((0 < oldRun s j work .sectors) × (q ≡ oldRun s j work .start .0 / 4096))
+  unfolding bitsIn
+  no-bit q z = let (x, y) = neither _ _ (rw earlier at z) in (not-in a k q x, not-in (oldRun s j work .start .0) (oldRun s j work .sectors) q y)
+
+  -- a run inside the card has its page
+  none-of : (b l : ℕ) → b + l ≤ g .s → ((q : ℕ) → q < gP g → ¬ ((0 < l) × (q ≡ b / 4096))) → l ≡ 0
+  unfolding gP
+  none-of b zero f h = refl
+  none-of b (suc l) f h = absurd (h (b / 4096) (omega arith) (omega arith, refl))
 
   -- and one more value of it, the same
   one-more : (i : ℕ) → sec now i ≡ sec work i → OneValue (p i) → OneValue (allWritten now p i)
@@ -102,16 +118,22 @@ module _ (s : Opened) (j a k : ℕ) (v : Version) (card work n d : List ℕ) (p 
       go (inr f) (inl g) = o x (sec now i) f here ∙ sym g
       go (inr f) (inr g) = o x y f g
 
-  pub touched-more : (c : ℕ) → Touched (mk card work (Open s) p m) c → Touched (mk card now (Open s) (allWritten now p) m) (k + 1 + c)
-  touched-more c T =
+  pub touched-more : (M : Marks) → Unmarked s p M
+      → Unmarked s (allWritten now p) (record { sectors = λ i. hitBy s j a k i || M .sectors i; pages = λ q. bitsIn s work j a k q || M .pages q })
+  touched-more M T =
       record {
-        hits = λ i. inRun d₀ 1 i + inRun a k i + T .hits i;
-        few = λ S. few S;
-        same = ((λ i lo z. one-more i (kept i lo (omega arith) (omega arith)) (T .same .0 i lo (omega arith))), (λ z. absurd (omega arith)));
+        sector = λ i lo z. let (x, y) = neither (hitBy s j a k i) (M .sectors i) z in one-more i (not-hit i lo x) (T .sector i lo y);
+        page = λ q l z.
+            let (x, y) = neither (bitsIn s work j a k q) (M .pages q) z in
+            let (u, w) = no-bit q x in
+            let P = pair-kept s j a k v work n d (sec work) R q l u w in
+            let (e, f) = T .page q l y in (one-more _ (P .first) e, one-more _ (P .second) f);
+        index = λ z. one-more (g .t + 1) (index-stays (λ q l. neither (bitsIn s work j a k q) (M .pages q) (z q l) .0))
+            (T .index (λ q l. neither (bitsIn s work j a k q) (M .pages q) (z q l) .1));
       }
     where
-      few : (S : ℕ) → total (λ i. inRun d₀ 1 i + inRun a k i + T .hits i) S ≤ k + 1 + c
-      few S =
-          let x = total-add (inRun d₀ 1) (inRun a k) (λ i. inRun d₀ 1 i + inRun a k i) S (λ i l. refl) in
-          let y = total-add (λ i. inRun d₀ 1 i + inRun a k i) (T .hits) (λ i. inRun d₀ 1 i + inRun a k i + T .hits i) S (λ i l. refl) in
-          omega (arith, run-few d₀ 1 S, run-few a k S, T .few S)
+      index-stays : ((q : ℕ) → q < gP g → bitsIn s work j a k q ≡ false) → sec now (g .t + 1) ≡ sec work (g .t + 1)
+      index-stays z =
+          unfold indexIn in
+          index-kept s j a k v work n d (sec work) R (none-of a k (R .fits) (λ q l. no-bit q (z q l) .0))
+          (none-of _ _ (old-room s j a k v work n d (sec work) R) (λ q l. no-bit q (z q l) .1))
