@@ -17,3 +17,4 @@ pub mod CallLaws
 pub mod LookLaws
 pub mod CardLaws
 pub mod SyncCalls
+pub mod Fitting

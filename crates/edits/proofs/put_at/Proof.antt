@@ -1,152 +1,39 @@
--- Its tests in their order; what they showed is what the change asks. Assumes nothing.
-use mathlib.Core.Path.{refl, sym, _∙_}
+-- The one test, then the inner call. Assumes nothing.
 use borrow.Author.Needs.{needs}
-use Rattle.store.specs.RoomLaws.{can-put}
-use Rattle.store.specs.CallLaws.{passed, failed, run-so, put-closed, put-2, put-9, put-5, put-11, put-7, put-8, put-done}
+use Rattle.store.specs.Fitting.{fit-of, met-unfit}
+use Rattle.store.specs.CallLaws.{put-2}
 use Rattle.edits.proofs.put_at.Statement.{statement}
 use Rattle.edits.proofs.put_at.Tie as tie
 
-enum-known-session : tie.Need-enum-known-session
-enum-known-session c = search needs
-
-enum-told : tie.Need-enum-told
-enum-told c = search needs
+unfit-requires : tie.Need-unfit-requires
+unfit-requires c κs = search needs
 
 refusal-requires : tie.Need-refusal-requires
 refusal-requires c κs = search needs
 
-returns : tie.Need-returns
-returns c = put-closed _ _ _ _ (c .before .enum-told .given .1) (c .refusal .ensures)
-
-fits-requires : tie.Need-fits-requires
-fits-requires c κs = search needs
-
-refusal-requires-2 : tie.Need-refusal-requires-2
-refusal-requires-2 c κs = search needs
-
 same-length : tie.Need-same-length
 same-length c = search needs
 
-returns-2 : tie.Need-returns-2
-returns-2 c = put-2 _ _ _ _ _ (c .before .before .before .before .before .session .given .1) (failed (c .before .before .fits2 .ensures) (c .before .if1 .taken)) (c .refusal2 .ensures)
+returns : tie.Need-returns
+returns c = let (s, o, z) = met-unfit _ _ (c .before .before .unfit .ensures) (c .before .if1 .taken) in put-2 s _ _ _ _ o z (c .refusal .ensures)
 
-refusal-requires-3 : tie.Need-refusal-requires-3
-refusal-requires-3 c κs = search needs
+put-at-fitting-requires : tie.Need-put-at-fitting-requires
+put-at-fitting-requires c κs = fit-of _ _ (c .before .before .unfit .ensures) (c .before .if1 .left)
 
 same-length-2 : tie.Need-same-length-2
 same-length-2 c = search needs
 
-returns-3 : tie.Need-returns-3
-returns-3 c = put-9 _ _ _ _ _ (c .before .before .before .before .before .before .session .given .1) (passed (c .before .before .before .fits2 .ensures) (c .before .before .if1 .left)) (c .before .if2 .taken) (c .refusal3 .ensures)
-
-good-name-requires : tie.Need-good-name-requires
-good-name-requires c κs = search needs
-
-refusal-requires-4 : tie.Need-refusal-requires-4
-refusal-requires-4 c κs = search needs
-
-same-length-3 : tie.Need-same-length-3
-same-length-3 c = search needs
-
-returns-4 : tie.Need-returns-4
-returns-4 c = put-5 _ _ _ _ _ (c .before .before .before .before .before .before .before .before .session .given .1) (passed (c .before .before .before .before .before .fits2 .ensures) (c .before .before .before .before .if1 .left)) (c .before .before .before .if2 .left) (failed (c .before .before .good-name .ensures) (c .before .if3 .taken)) (c .refusal4 .ensures)
-
-refusal-requires-5 : tie.Need-refusal-requires-5
-refusal-requires-5 c κs = search needs
-
-same-length-4 : tie.Need-same-length-4
-same-length-4 c = search needs
-
-returns-5 : tie.Need-returns-5
-returns-5 c = put-11 _ _ _ _ _ (c .before .before .before .before .before .before .before .before .before .before .before .session .given .1) (passed (c .before .before .before .before .before .before .before .before .fits2 .ensures) (c .before .before .before .before .before .before .before .if1 .left)) (c .before .before .before .before .before .before .if2 .left) (passed (c .before .before .before .before .before .good-name .ensures) (c .before .before .before .before .if3 .left)) (c .before .if4 .taken) (c .refusal5 .ensures)
-
-put-place-requires : tie.Need-put-place-requires
-put-place-requires c κs = passed (c .before .before .before .before .before .before .before .before .fits2 .ensures) (c .before .before .before .before .before .before .before .if1 .left)
-
-enum-known-j : tie.Need-enum-known-j
-enum-known-j c = search needs
-
-enum-told-2 : tie.Need-enum-told-2
-enum-told-2 c = search needs
-
-refusal-requires-6 : tie.Need-refusal-requires-6
-refusal-requires-6 c κs = search needs
-
-same-length-5 : tie.Need-same-length-5
-same-length-5 c = search needs
-
-returns-6 : tie.Need-returns-6
-returns-6 c = put-7 _ _ _ _ _ (c .before .before .before .before .before .before .before .before .before .before .before .before .before .before .before .session .given .1) (passed (c .before .before .before .before .before .before .before .before .before .before .before .before .fits2 .ensures) (c .before .before .before .before .before .before .before .before .before .before .before .if1 .left)) (c .before .before .before .before .before .before .before .before .before .before .if2 .left) (passed (c .before .before .before .before .before .before .before .before .before .good-name .ensures) (c .before .before .before .before .before .before .before .before .if3 .left)) (c .before .before .before .before .before .if4 .left) (sym (c .before .before .before .put-place .ensures) ∙ c .before .enum-told2 .given .1) (c .refusal6 .ensures)
-
-sectors-of-requires : tie.Need-sectors-of-requires
-sectors-of-requires c κs = search needs
-
-run-in-requires : tie.Need-run-in-requires
-run-in-requires c κs = (passed (c .before .before .before .before .before .before .before .before .before .before .before .before .before .before .fits2 .ensures) (c .before .before .before .before .before .before .before .before .before .before .before .before .before .if1 .left), c .before .before .before .before .before .before .before .if4 .left)
-
-enum-known-a : tie.Need-enum-known-a
-enum-known-a c = search needs
-
-enum-told-3 : tie.Need-enum-told-3
-enum-told-3 c = search needs
-
-refusal-requires-7 : tie.Need-refusal-requires-7
-refusal-requires-7 c κs = search needs
-
-same-length-6 : tie.Need-same-length-6
-same-length-6 c = search needs
-
-returns-7 : tie.Need-returns-7
-returns-7 c = put-8 _ _ _ _ _ (c .before .before .before .before .before .before .before .before .before .before .before .before .before .before .before .before .before .before .before .before .before .session .given .1) (passed (c .before .before .before .before .before .before .before .before .before .before .before .before .before .before .before .before .before .before .fits2 .ensures) (c .before .before .before .before .before .before .before .before .before .before .before .before .before .before .before .before .before .if1 .left)) (c .before .before .before .before .before .before .before .before .before .before .before .before .before .before .before .before .if2 .left) (passed (c .before .before .before .before .before .before .before .before .before .before .before .before .before .before .before .good-name .ensures) (c .before .before .before .before .before .before .before .before .before .before .before .before .before .before .if3 .left)) (c .before .before .before .before .before .before .before .before .before .before .before .if4 .left) (sym (c .before .before .before .before .before .before .before .before .before .put-place .ensures) ∙ c .before .before .before .before .before .before .before .j .given .1) (run-so _ _ _ (c .before .before .before .before .before .sectors-of .ensures) (c .before .before .before .run-in .ensures) (c .before .enum-told3 .given .1)) (c .refusal7 .ensures)
-
-put-in-requires : tie.Need-put-in-requires
-put-in-requires c κs = can-put _ _ _ _ _ _ _ (passed (c .before .before .before .before .before .before .before .before .before .before .before .before .before .before .before .before .before .before .before .fits2 .ensures) (c .before .before .before .before .before .before .before .before .before .before .before .before .before .before .before .before .before .before .if1 .left)) (passed (c .before .before .before .before .before .before .before .before .before .before .before .before .before .before .before .before .good-name .ensures) (c .before .before .before .before .before .before .before .before .before .before .before .before .before .before .before .if3 .left)) (sym (c .before .before .before .before .before .before .before .before .before .before .put-place .ensures) ∙ c .before .before .before .before .before .before .before .before .j .given .1) (run-so _ _ _ (c .before .before .before .before .before .before .sectors-of .ensures) (c .before .before .before .before .run-in .ensures) (c .before .before .a .given .1)) refl
-
-success-requires : tie.Need-success-requires
-success-requires c κs = search needs
-
-same-length-7 : tie.Need-same-length-7
-same-length-7 c = search needs
-
-returns-8 : tie.Need-returns-8
-returns-8 c = put-done _ _ _ _ _ (c .before .before .before .before .before .before .before .before .before .before .before .before .before .before .before .before .before .before .before .before .before .before .before .before .before .before .session .given .1) (passed (c .before .before .before .before .before .before .before .before .before .before .before .before .before .before .before .before .before .before .before .before .before .before .before .fits2 .ensures) (c .before .before .before .before .before .before .before .before .before .before .before .before .before .before .before .before .before .before .before .before .before .before .if1 .left)) (c .before .before .before .before .before .before .before .before .before .before .before .before .before .before .before .before .before .before .before .before .before .if2 .left) (passed (c .before .before .before .before .before .before .before .before .before .before .before .before .before .before .before .before .before .before .before .before .good-name .ensures) (c .before .before .before .before .before .before .before .before .before .before .before .before .before .before .before .before .before .before .before .if3 .left)) (c .before .before .before .before .before .before .before .before .before .before .before .before .before .before .before .before .if4 .left) (sym (c .before .before .before .before .before .before .before .before .before .before .before .before .before .before .put-place .ensures) ∙ c .before .before .before .before .before .before .before .before .before .before .before .before .j .given .1) (run-so _ _ _ (c .before .before .before .before .before .before .before .before .before .before .sectors-of .ensures) (c .before .before .before .before .before .before .before .before .run-in .ensures) (c .before .before .before .before .before .before .a .given .1)) (c .success .ensures) (c .before .before .before .put-in .ensures)
+returns-2 : tie.Need-returns-2
+returns-2 c = search needs
 
 pub put-at-spec : {M : Type 1} → statement M
 put-at-spec =
     tie.close
     (tie.spec
-    enum-known-session
-    enum-told
+    unfit-requires
     refusal-requires
-    returns
-    fits-requires
-    refusal-requires-2
     same-length
-    returns-2
-    refusal-requires-3
+    returns
+    put-at-fitting-requires
     same-length-2
-    returns-3
-    good-name-requires
-    refusal-requires-4
-    same-length-3
-    returns-4
-    refusal-requires-5
-    same-length-4
-    returns-5
-    put-place-requires
-    enum-known-j
-    enum-told-2
-    refusal-requires-6
-    same-length-5
-    returns-6
-    sectors-of-requires
-    run-in-requires
-    enum-known-a
-    enum-told-3
-    refusal-requires-7
-    same-length-6
-    returns-7
-    put-in-requires
-    success-requires
-    same-length-7
-    returns-8)
+    returns-2)

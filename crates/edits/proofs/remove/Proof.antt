@@ -1,115 +1,39 @@
--- Its tests in their order; what they showed is what the change asks. Assumes nothing.
+-- The one test, then the inner call. Assumes nothing.
 use borrow.Author.Needs.{needs}
-use Rattle.store.specs.ViewLaws.{fit-laid}
-use Rattle.store.specs.CallLaws.{passed, failed, file-here, remove-closed, remove-2, remove-9, remove-5, remove-6, remove-done}
+use Rattle.store.specs.Fitting.{fit-of, met-unfit}
+use Rattle.store.specs.CallLaws.{remove-2}
 use Rattle.edits.proofs.remove.Statement.{statement}
 use Rattle.edits.proofs.remove.Tie as tie
 
-enum-known-session : tie.Need-enum-known-session
-enum-known-session c = search needs
-
-enum-told : tie.Need-enum-told
-enum-told c = search needs
+unfit-requires : tie.Need-unfit-requires
+unfit-requires c κs = search needs
 
 refusal-requires : tie.Need-refusal-requires
 refusal-requires c κs = search needs
 
-returns : tie.Need-returns
-returns c = remove-closed _ _ (c .before .enum-told .given .1) (c .refusal .ensures)
-
-fits-requires : tie.Need-fits-requires
-fits-requires c κs = search needs
-
-refusal-requires-2 : tie.Need-refusal-requires-2
-refusal-requires-2 c κs = search needs
-
 same-length : tie.Need-same-length
 same-length c = search needs
 
-returns-2 : tie.Need-returns-2
-returns-2 c = remove-2 _ _ _ (c .before .before .before .before .before .session .given .1) (failed (c .before .before .fits2 .ensures) (c .before .if1 .taken)) (c .refusal2 .ensures)
+returns : tie.Need-returns
+returns c = let (s, o, z) = met-unfit _ _ (c .before .before .unfit .ensures) (c .before .if1 .taken) in remove-2 s _ _ o z (c .refusal .ensures)
 
-refusal-requires-3 : tie.Need-refusal-requires-3
-refusal-requires-3 c κs = search needs
+remove-fitting-requires : tie.Need-remove-fitting-requires
+remove-fitting-requires c κs = fit-of _ _ (c .before .before .unfit .ensures) (c .before .if1 .left)
 
 same-length-2 : tie.Need-same-length-2
 same-length-2 c = search needs
 
-returns-3 : tie.Need-returns-3
-returns-3 c = remove-9 _ _ _ (c .before .before .before .before .before .before .session .given .1) (passed (c .before .before .before .fits2 .ensures) (c .before .before .if1 .left)) (c .before .if2 .taken) (c .refusal3 .ensures)
-
-good-name-requires : tie.Need-good-name-requires
-good-name-requires c κs = search needs
-
-refusal-requires-4 : tie.Need-refusal-requires-4
-refusal-requires-4 c κs = search needs
-
-same-length-3 : tie.Need-same-length-3
-same-length-3 c = search needs
-
-returns-4 : tie.Need-returns-4
-returns-4 c = remove-5 _ _ _ (c .before .before .before .before .before .before .before .before .session .given .1) (passed (c .before .before .before .before .before .fits2 .ensures) (c .before .before .before .before .if1 .left)) (c .before .before .before .if2 .left) (failed (c .before .before .good-name .ensures) (c .before .if3 .taken)) (c .refusal4 .ensures)
-
-present-view-requires : tie.Need-present-view-requires
-present-view-requires c κs = let l = fit-laid _ _ (passed (c .before .before .before .before .before .fits2 .ensures) (c .before .before .before .before .if1 .left)) in search needs
-
-find-name-requires : tie.Need-find-name-requires
-find-name-requires c κs = fit-laid _ _ (passed (c .before .before .before .before .before .before .before .fits2 .ensures) (c .before .before .before .before .before .before .if1 .left))
-
-enum-known-j : tie.Need-enum-known-j
-enum-known-j c = search needs
-
-enum-told-2 : tie.Need-enum-told-2
-enum-told-2 c = search needs
-
-refusal-requires-5 : tie.Need-refusal-requires-5
-refusal-requires-5 c κs = search needs
-
-same-length-4 : tie.Need-same-length-4
-same-length-4 c = search needs
-
-returns-5 : tie.Need-returns-5
-returns-5 c = remove-6 _ _ _ (c .before .before .before .before .before .before .before .before .before .before .before .before .before .before .session .given .1) (passed (c .before .before .before .before .before .before .before .before .before .before .before .fits2 .ensures) (c .before .before .before .before .before .before .before .before .before .before .if1 .left)) (c .before .before .before .before .before .before .before .before .before .if2 .left) (passed (c .before .before .before .before .before .before .before .before .good-name .ensures) (c .before .before .before .before .before .before .before .if3 .left)) (file-here _ _ _ (c .before .before .before .before .before .present-view .ensures) (c .before .before .before .find-name .ensures) (c .before .enum-told2 .given .1)) (c .refusal5 .ensures)
-
-remove-in-requires : tie.Need-remove-in-requires
-remove-in-requires c κs = (passed (c .before .before .before .before .before .before .before .before .before .before .before .before .fits2 .ensures) (c .before .before .before .before .before .before .before .before .before .before .before .if1 .left), (passed (c .before .before .before .before .before .before .before .before .before .good-name .ensures) (c .before .before .before .before .before .before .before .before .if3 .left), file-here _ _ _ (c .before .before .before .before .before .before .present-view .ensures) (c .before .before .before .before .find-name .ensures) (c .before .before .j .given .1)))
-
-success-requires : tie.Need-success-requires
-success-requires c κs = search needs
-
-same-length-5 : tie.Need-same-length-5
-same-length-5 c = search needs
-
-returns-6 : tie.Need-returns-6
-returns-6 c = remove-done _ _ _ (c .before .before .before .before .before .before .before .before .before .before .before .before .before .before .before .before .before .before .before .session .given .1) (passed (c .before .before .before .before .before .before .before .before .before .before .before .before .before .before .before .before .fits2 .ensures) (c .before .before .before .before .before .before .before .before .before .before .before .before .before .before .before .if1 .left)) (c .before .before .before .before .before .before .before .before .before .before .before .before .before .before .if2 .left) (passed (c .before .before .before .before .before .before .before .before .before .before .before .before .before .good-name .ensures) (c .before .before .before .before .before .before .before .before .before .before .before .before .if3 .left)) (file-here _ _ _ (c .before .before .before .before .before .before .before .before .before .before .present-view .ensures) (c .before .before .before .before .before .before .before .before .find-name .ensures) (c .before .before .before .before .before .before .j .given .1)) (c .success .ensures) (c .before .before .before .remove-in .ensures)
+returns-2 : tie.Need-returns-2
+returns-2 c = search needs
 
 pub remove-spec : {M : Type 1} → statement M
 remove-spec =
     tie.close
     (tie.spec
-    enum-known-session
-    enum-told
+    unfit-requires
     refusal-requires
-    returns
-    fits-requires
-    refusal-requires-2
     same-length
-    returns-2
-    refusal-requires-3
+    returns
+    remove-fitting-requires
     same-length-2
-    returns-3
-    good-name-requires
-    refusal-requires-4
-    same-length-3
-    returns-4
-    present-view-requires
-    find-name-requires
-    enum-known-j
-    enum-told-2
-    refusal-requires-5
-    same-length-4
-    returns-5
-    remove-in-requires
-    success-requires
-    same-length-5
-    returns-6)
+    returns-2)
