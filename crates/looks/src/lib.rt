@@ -1,8 +1,12 @@
 // Looking at a session: a file of its present view, one line of its list, and its free and waiting sectors.
+//
+// A call is two functions. The inner one, named `_fitting`, makes every test but 2 and requires instead that an open session fits; the public
+// one is that test and then the inner one.
 ghost use mathlib.Core.Path.{_≡_};
 ghost use Rattle.card.specs.Plan.{refused};
 ghost use Rattle.card.specs.Files.{noLine};
 ghost use Rattle.store.specs.Look.{get, line, noFigures, free};
+ghost use Rattle.store.specs.Fitting.{FitOf};
 use card::Answer;
 use card::Lined;
 use card::refusal;
@@ -15,6 +19,7 @@ use files::no_line;
 use files::one_if;
 use session::Session;
 use store::Room;
+use unfit::unfit;
 
 // No line, and the number of a refusal.
 fn unlined(k: u32) -> Lined
@@ -36,17 +41,14 @@ fn no_figures(k: u32) -> Room
     }
 }
 
-// "free 4, 2": the sectors clear in both views, and those that the next sync releases.
-pub fn free(session: Session, work: &[u8]) -> Room
+// Free in a session that fits: 4, then both figures.
+pub fn free_fitting(session: Session, work: &[u8]) -> Room
+    requires { ⌜ FitOf session (now work) ⌝ }
     ensures { λ r. ⌜ r ≡ free session (now (work .entry)) ⌝ }
 {
     let Session::Open(s) = session else {
         return no_figures(4);
     };
-    let fit = fit::fits(s, work);
-    if !fit {
-        return no_figures(2);
-    }
     let g = s.geo;
     let present = session::present_view(s);
     let cut = counts::as_is(g);
@@ -58,17 +60,25 @@ pub fn free(session: Session, work: &[u8]) -> Room
     }
 }
 
-// The line at a position (4, 2); the count is 1 where there is one, else 0.
-pub fn line(session: Session, work: &[u8], i: u32) -> Lined
+// "free 4, 2": the sectors clear in both views, and those that the next sync releases.
+pub fn free(session: Session, work: &[u8]) -> Room
+    ensures { λ r. ⌜ r ≡ free session (now (work .entry)) ⌝ }
+{
+    let unfit = unfit(session, work);
+    if unfit {
+        return no_figures(2);
+    }
+    free_fitting(session, work)
+}
+
+// The line at a position in a session that fits (4); the count is 1 where there is one, else 0.
+pub fn line_fitting(session: Session, work: &[u8], i: u32) -> Lined
+    requires { ⌜ FitOf session (now work) ⌝ }
     ensures { λ r. ⌜ r ≡ line session (now (work .entry)) i ⌝ }
 {
     let Session::Open(s) = session else {
         return unlined(4);
     };
-    let fit = fit::fits(s, work);
-    if !fit {
-        return unlined(2);
-    }
     let g = s.geo;
     let present = session::present_view(s);
     let n = file_count(work, g, present);
@@ -78,18 +88,37 @@ pub fn line(session: Session, work: &[u8], i: u32) -> Lined
     Lined { answer, line }
 }
 
-// "get 4, 2, 5, 6, 10"
-pub fn get(session: Session, work: &[u8], name: &[u8], out: &mut [u8]) -> Answer
+// The line at a position (4, 2); the count is 1 where there is one, else 0.
+pub fn line(session: Session, work: &[u8], i: u32) -> Lined
+    ensures { λ r. ⌜ r ≡ line session (now (work .entry)) i ⌝ }
+{
+    let unfit = unfit(session, work);
+    if unfit {
+        return unlined(2);
+    }
+    line_fitting(session, work, i)
+}
+
+// Get in a session that fits: every test of get but 2, in its order
+pub fn get_fitting(session: Session, work: &[u8], name: &[u8], out: &mut [u8]) -> Answer
+    requires { ⌜ FitOf session (now work) ⌝ }
     ensures { λ r. ⌜ (r ≡ get session (now (work .entry)) (now (name .entry)) (now (out .entry)) .answer) × (now (out .exit) ≡ get session (now (work .entry)) (now (name .entry)) (now (out .entry)) .out) ⌝ }
 {
     let Session::Open(s) = session else {
         return refusal(4);
     };
-    let fit = fit::fits(s, work);
-    if !fit {
-        return refusal(2);
-    }
     let g = s.geo;
     let present = session::present_view(s);
     get_in(work, g, present, name, out)
+}
+
+// "get 4, 2, 5, 6, 10"
+pub fn get(session: Session, work: &[u8], name: &[u8], out: &mut [u8]) -> Answer
+    ensures { λ r. ⌜ (r ≡ get session (now (work .entry)) (now (name .entry)) (now (out .entry)) .answer) × (now (out .exit) ≡ get session (now (work .entry)) (now (name .entry)) (now (out .entry)) .out) ⌝ }
+{
+    let unfit = unfit(session, work);
+    if unfit {
+        return refusal(2);
+    }
+    get_fitting(session, work, name, out)
 }
