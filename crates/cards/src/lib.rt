@@ -1,4 +1,7 @@
 // The calls that write to the card: mount, land, sync and unmount, each its tests in the order of the table, then its steps.
+//
+// Land, sync and unmount are two functions each. The inner one, named `_fitting`, makes every test but 2 and requires instead that an open session
+// fits; the public one is that test and then the inner one. 1 comes before 2: a card of another length is not judged, and the inner call answers it.
 ghost use mathlib.Core.Path.{_≡_};
 ghost use mathlib.Core.Bool.{true};
 ghost use lib.Dec.{ltb};
@@ -8,6 +11,7 @@ ghost use Rattle.card.specs.Plan.{refused};
 ghost use Rattle.card.specs.Sound.{shapeOk};
 ghost use Rattle.store.specs.Mount.{mount};
 ghost use Rattle.store.specs.Sync.{land, sync, unmount};
+ghost use Rattle.store.specs.Fitting.{FitOn};
 use card::Answer;
 use card::refusal;
 use card::success;
@@ -20,6 +24,7 @@ use sound::sound;
 use store::Outcome;
 use syncing::sync_in;
 use syncing::unmount_in;
+use unfit::unfit_on;
 
 // A refusal, with the session as it is.
 fn stays(session: Session, k: u32) -> Outcome
@@ -65,8 +70,9 @@ pub fn mount(card: &mut [u8], work: &mut [u8]) -> Outcome
     }
 }
 
-// "land 4, 1, 2, 11"
-pub fn land(session: Session, card: &mut [u8], work: &[u8], i: Sector) -> Answer
+// Land in a session that fits: 4, 1, 11
+pub fn land_fitting(session: Session, card: &mut [u8], work: &[u8], i: Sector) -> Answer
+    requires { ⌜ FitOn session (now card) (now work) ⌝ }
     ensures { λ r. ⌜ (r ≡ land session (now (card .entry)) (now (work .entry)) (i .0) .answer) × (now (card .exit) ≡ land session (now (card .entry)) (now (work .entry)) (i .0) .image) ⌝ }
 {
     let Session::Open(s) = session else {
@@ -75,10 +81,6 @@ pub fn land(session: Session, card: &mut [u8], work: &[u8], i: Sector) -> Answer
     if card.len() != 512 * (s.geo.s as usize) {
         return refusal(1);
     }
-    let fit = fit::fits(s, work);
-    if !fit {
-        return refusal(2);
-    }
     if s.geo.s <= i.0 {
         return refusal(11);
     }
@@ -86,8 +88,20 @@ pub fn land(session: Session, card: &mut [u8], work: &[u8], i: Sector) -> Answer
     success(0)
 }
 
-// "sync 4, 1, 2, 9", with the number of sectors written
-pub fn sync(session: Session, card: &mut [u8], work: &mut [u8]) -> Outcome
+// "land 4, 1, 2, 11"
+pub fn land(session: Session, card: &mut [u8], work: &[u8], i: Sector) -> Answer
+    ensures { λ r. ⌜ (r ≡ land session (now (card .entry)) (now (work .entry)) (i .0) .answer) × (now (card .exit) ≡ land session (now (card .entry)) (now (work .entry)) (i .0) .image) ⌝ }
+{
+    let unfit = unfit_on(session, card, work);
+    if unfit {
+        return refusal(2);
+    }
+    land_fitting(session, card, work, i)
+}
+
+// Sync in a session that fits: 4, 1, 9
+pub fn sync_fitting(session: Session, card: &mut [u8], work: &mut [u8]) -> Outcome
+    requires { ⌜ FitOn session (now card) (now work) ⌝ }
     ensures { λ r. ⌜ (r .answer ≡ sync session (now (card .entry)) (now (work .entry)) .answer) × ((r .session ≡ sync session (now (card .entry)) (now (work .entry)) .session) × ((now (card .exit) ≡ sync session (now (card .entry)) (now (work .entry)) .card) × (now (work .exit) ≡ sync session (now (card .entry)) (now (work .entry)) .work))) ⌝ }
 {
     let Session::Open(s) = session else {
@@ -95,10 +109,6 @@ pub fn sync(session: Session, card: &mut [u8], work: &mut [u8]) -> Outcome
     };
     if card.len() != 512 * (s.geo.s as usize) {
         return stays(session, 1);
-    }
-    let fit = fit::fits(s, work);
-    if !fit {
-        return stays(session, 2);
     }
     if s.worn {
         return stays(session, 9);
@@ -112,8 +122,20 @@ pub fn sync(session: Session, card: &mut [u8], work: &mut [u8]) -> Outcome
     }
 }
 
-// "unmount 4, 1, 2", with the number of sectors its sync wrote
-pub fn unmount(session: Session, card: &mut [u8], work: &mut [u8]) -> Outcome
+// "sync 4, 1, 2, 9", with the number of sectors written
+pub fn sync(session: Session, card: &mut [u8], work: &mut [u8]) -> Outcome
+    ensures { λ r. ⌜ (r .answer ≡ sync session (now (card .entry)) (now (work .entry)) .answer) × ((r .session ≡ sync session (now (card .entry)) (now (work .entry)) .session) × ((now (card .exit) ≡ sync session (now (card .entry)) (now (work .entry)) .card) × (now (work .exit) ≡ sync session (now (card .entry)) (now (work .entry)) .work))) ⌝ }
+{
+    let unfit = unfit_on(session, card, work);
+    if unfit {
+        return stays(session, 2);
+    }
+    sync_fitting(session, card, work)
+}
+
+// Unmount of a session that fits: 4, 1
+pub fn unmount_fitting(session: Session, card: &mut [u8], work: &mut [u8]) -> Outcome
+    requires { ⌜ FitOn session (now card) (now work) ⌝ }
     ensures { λ r. ⌜ (r .answer ≡ unmount session (now (card .entry)) (now (work .entry)) .answer) × ((r .session ≡ unmount session (now (card .entry)) (now (work .entry)) .session) × ((now (card .exit) ≡ unmount session (now (card .entry)) (now (work .entry)) .card) × (now (work .exit) ≡ unmount session (now (card .entry)) (now (work .entry)) .work))) ⌝ }
 {
     let Session::Open(s) = session else {
@@ -122,14 +144,21 @@ pub fn unmount(session: Session, card: &mut [u8], work: &mut [u8]) -> Outcome
     if card.len() != 512 * (s.geo.s as usize) {
         return stays(session, 1);
     }
-    let fit = fit::fits(s, work);
-    if !fit {
-        return stays(session, 2);
-    }
     let written = unmount_in(s, card, work);
     let answer = success(written);
     Outcome {
         answer,
         session: Session::Closed,
     }
+}
+
+// "unmount 4, 1, 2", with the number of sectors its sync wrote
+pub fn unmount(session: Session, card: &mut [u8], work: &mut [u8]) -> Outcome
+    ensures { λ r. ⌜ (r .answer ≡ unmount session (now (card .entry)) (now (work .entry)) .answer) × ((r .session ≡ unmount session (now (card .entry)) (now (work .entry)) .session) × ((now (card .exit) ≡ unmount session (now (card .entry)) (now (work .entry)) .card) × (now (work .exit) ≡ unmount session (now (card .entry)) (now (work .entry)) .work))) ⌝ }
+{
+    let unfit = unfit_on(session, card, work);
+    if unfit {
+        return stays(session, 2);
+    }
+    unmount_fitting(session, card, work)
 }

@@ -1,82 +1,30 @@
--- Its tests in their order; a fit gives both lengths. Assumes nothing.
-use native.Mathlib.Omega.{arith}
-use denote.Ref.{now}
+-- The one test, then the inner call. Assumes nothing.
 use borrow.Author.Needs.{needs}
-use Rattle.store.specs.CallLaws.{passed, failed}
-use Rattle.store.specs.WriteLaws.{can-sync}
-use Rattle.store.specs.CardLaws.{land-closed, land-1, land-2, land-11, land-done}
+use Rattle.store.specs.Fitting.{fit-on, met-unfit-on}
+use Rattle.store.specs.CardLaws.{land-2}
 use Rattle.cards.proofs.land.Statement.{statement}
 use Rattle.cards.proofs.land.Tie as tie
 
-enum-known-session : tie.Need-enum-known-session
-enum-known-session c = search needs
-
-enum-told : tie.Need-enum-told
-enum-told c = search needs
+unfit-on-requires : tie.Need-unfit-on-requires
+unfit-on-requires c κs = search needs
 
 refusal-requires : tie.Need-refusal-requires
 refusal-requires c κs = search needs
 
-returns : tie.Need-returns
-returns c = land-closed _ _ _ (c .before .enum-told .given .1) (c .refusal .ensures)
-
-cast-if1 : tie.Need-cast-if1
-cast-if1 c = search needs
-
-mul-if1 : tie.Need-mul-if1
-mul-if1 c = search needs
-
-refusal-requires-2 : tie.Need-refusal-requires-2
-refusal-requires-2 c κs = search needs
-
-returns-2 : tie.Need-returns-2
-returns-2 c = land-1 _ _ _ _ (c .before .before .before .before .session .given .1) (c .before .if1 .taken) (c .refusal2 .ensures)
-
-fits-requires : tie.Need-fits-requires
-fits-requires c κs = search needs
-
-refusal-requires-3 : tie.Need-refusal-requires-3
-refusal-requires-3 c κs = search needs
-
-returns-3 : tie.Need-returns-3
-returns-3 c = land-2 _ _ _ _ (c .before .before .before .before .before .before .session .given .1) (c .before .before .before .if1 .left) (failed (c .before .before .fits2 .ensures) (c .before .if2 .taken)) (c .refusal3 .ensures)
-
-refusal-requires-4 : tie.Need-refusal-requires-4
-refusal-requires-4 c κs = search needs
-
-returns-4 : tie.Need-returns-4
-returns-4 c = land-11 _ _ _ _ (c .before .before .before .before .before .before .before .before .before .session .given .1) (c .before .before .before .before .before .before .if1 .left) (passed (c .before .before .before .before .before .fits2 .ensures) (c .before .before .before .before .if2 .left)) (c .before .if3 .taken) (c .refusal4 .ensures)
-
-land-in-requires : tie.Need-land-in-requires
-land-in-requires c κs = let e = can-sync (c .before .before .before .before .before .before .before .before .before .session .given .0 .0) (now (c .before .before .before .before .before .before .before .before .before .before .before .before .before .args .card)) (now (c .before .before .before .before .before .before .before .before .before .before .before .before .before .args .work)) (c .before .before .before .before .before .before .if1 .left) (passed (c .before .before .before .before .before .fits2 .ensures) (c .before .before .before .before .if2 .left)) in (omega (arith, e .cardSize, c .before .if3 .left), omega (arith, e .workSize, c .before .if3 .left))
-
-success-requires : tie.Need-success-requires
-success-requires c κs = search needs
-
 same-length : tie.Need-same-length
 same-length c = search needs
 
-returns-5 : tie.Need-returns-5
-returns-5 c = land-done _ _ _ _ (c .before .before .before .before .before .before .before .before .before .before .before .before .before .session .given .1) (c .before .before .before .before .before .before .before .before .before .before .if1 .left) (passed (c .before .before .before .before .before .before .before .before .before .fits2 .ensures) (c .before .before .before .before .before .before .before .before .if2 .left)) (c .before .before .before .before .before .if3 .left) (c .success .ensures) (c .before .before .before .land-in .ensures)
+returns : tie.Need-returns
+returns c = let (s, o, d, z) = met-unfit-on _ _ _ (c .before .before .unfit-on .ensures) (c .before .if1 .taken) in land-2 s _ _ _ o d z (c .refusal .ensures)
+
+land-fitting-requires : tie.Need-land-fitting-requires
+land-fitting-requires c κs = fit-on _ _ _ (c .before .before .unfit-on .ensures) (c .before .if1 .left)
+
+same-length-2 : tie.Need-same-length-2
+same-length-2 c = search needs
+
+returns-2 : tie.Need-returns-2
+returns-2 c = search needs
 
 pub land-spec : {M : Type 1} → statement M
-land-spec =
-    tie.close
-    (tie.spec
-    enum-known-session
-    enum-told
-    refusal-requires
-    returns
-    cast-if1
-    mul-if1
-    refusal-requires-2
-    returns-2
-    fits-requires
-    refusal-requires-3
-    returns-3
-    refusal-requires-4
-    returns-4
-    land-in-requires
-    success-requires
-    same-length
-    returns-5)
+land-spec = tie.close (tie.spec unfit-on-requires refusal-requires same-length returns land-fitting-requires same-length-2 returns-2)

@@ -1,81 +1,37 @@
--- Its tests in their order; a fit gives what the steps ask. Assumes nothing.
-use mathlib.Core.Path.{refl}
+-- The one test, then the inner call. Assumes nothing.
 use borrow.Author.Needs.{needs}
-use Rattle.store.specs.CallLaws.{passed, failed}
-use Rattle.store.specs.WriteLaws.{can-sync}
-use Rattle.store.specs.SyncCalls.{unmount-closed, unmount-1, unmount-2, unmount-done}
+use mathlib.Core.Path.{_∙_}
+use Rattle.store.specs.Fitting.{fit-on, met-unfit-on}
+use Rattle.store.specs.SyncCalls.{unmount-2}
 use Rattle.cards.proofs.unmount.Statement.{statement}
 use Rattle.cards.proofs.unmount.Tie as tie
 
-enum-known-session : tie.Need-enum-known-session
-enum-known-session c = search needs
-
-enum-told : tie.Need-enum-told
-enum-told c = search needs
+unfit-on-requires : tie.Need-unfit-on-requires
+unfit-on-requires c κs = search needs
 
 stays-requires : tie.Need-stays-requires
 stays-requires c κs = search needs
 
-returns : tie.Need-returns
-returns c = unmount-closed _ _ (c .before .enum-told .given .1) (c .stays .ensures)
-
-cast-if1 : tie.Need-cast-if1
-cast-if1 c = search needs
-
-mul-if1 : tie.Need-mul-if1
-mul-if1 c = search needs
-
-stays-requires-2 : tie.Need-stays-requires-2
-stays-requires-2 c κs = search needs
-
-returns-2 : tie.Need-returns-2
-returns-2 c = unmount-1 _ _ _ (c .before .before .before .before .session .given .1) (c .before .if1 .taken) (c .stays2 .ensures)
-
-fits-requires : tie.Need-fits-requires
-fits-requires c κs = search needs
-
-stays-requires-3 : tie.Need-stays-requires-3
-stays-requires-3 c κs = search needs
-
 same-length : tie.Need-same-length
 same-length c = search needs
-
-returns-3 : tie.Need-returns-3
-returns-3 c = unmount-2 _ _ _ (c .before .before .before .before .before .before .before .session .given .1) (c .before .before .before .before .if1 .left) (failed (c .before .before .fits2 .ensures) (c .before .if2 .taken)) (c .stays3 .ensures)
-
-unmount-in-requires : tie.Need-unmount-in-requires
-unmount-in-requires c κs = can-sync _ _ _ (c .before .before .before .before .before .if1 .left) (passed (c .before .before .before .fits2 .ensures) (c .before .before .if2 .left))
-
-success-requires : tie.Need-success-requires
-success-requires c κs = search needs
 
 same-length-2 : tie.Need-same-length-2
 same-length-2 c = search needs
 
+returns : tie.Need-returns
+returns c = let (s, o, d, z) = met-unfit-on _ _ _ (c .before .before .unfit-on .ensures) (c .before .if1 .taken) in unmount-2 s _ _ o d z (c .stays .ensures .0, c .stays .ensures .1 ∙ o)
+
+unmount-fitting-requires : tie.Need-unmount-fitting-requires
+unmount-fitting-requires c κs = fit-on _ _ _ (c .before .before .before .unfit-on .ensures) (c .before .before .if1 .left)
+
 same-length-3 : tie.Need-same-length-3
 same-length-3 c = search needs
 
-returns-4 : tie.Need-returns-4
-returns-4 c = unmount-done _ _ _ (c .before .before .before .before .before .before .before .before .before .before .before .before .before .before .session .given .1) (c .before .before .before .before .before .before .before .before .before .before .before .if1 .left) (passed (c .before .before .before .before .before .before .before .before .before .fits2 .ensures) (c .before .before .before .before .before .before .before .before .if2 .left)) (c .success .ensures) refl (c .before .before .before .before .before .unmount-in .ensures)
+same-length-4 : tie.Need-same-length-4
+same-length-4 c = search needs
+
+returns-2 : tie.Need-returns-2
+returns-2 c = search needs
 
 pub unmount-spec : {M : Type 1} → statement M
-unmount-spec =
-    tie.close
-    (tie.spec
-    enum-known-session
-    enum-told
-    stays-requires
-    returns
-    cast-if1
-    mul-if1
-    stays-requires-2
-    returns-2
-    fits-requires
-    stays-requires-3
-    same-length
-    returns-3
-    unmount-in-requires
-    success-requires
-    same-length-2
-    same-length-3
-    returns-4)
+unmount-spec = tie.close (tie.spec unfit-on-requires stays-requires same-length same-length-2 returns unmount-fitting-requires same-length-3 same-length-4 returns-2)
