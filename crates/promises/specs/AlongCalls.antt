@@ -21,7 +21,8 @@ use Rattle.promises.specs.Answers.{put-answers, remove-answers}
 use Rattle.promises.specs.History.{Pending, World, Call, makeC, mountC, syncC, unmountC, putC, removeC, landC, getC, listC, freeC, afterCut, byNumber, endOpen, before, edited, stepped, after, Reach}
 use Rattle.promises.specs.Inv.{mk}
 use Rattle.promises.specs.Demand.{card-possible}
-use Rattle.promises.specs.FitHistory.{FitOf, always-fits}
+use Rattle.store.specs.Fitting.{FitOf}
+use Rattle.promises.specs.FitHistory.{always-fits}
 use Rattle.promises.specs.Steady.{through, make-shows, mount-shows, sync-same}
 use Rattle.promises.specs.LeavesProved.{unmount-changes}
 use Rattle.promises.specs.WholeProved.{reads-as, looks-as}

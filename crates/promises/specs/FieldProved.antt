@@ -10,6 +10,7 @@ use Rattle.card.specs.Make.{freshCard}
 use Rattle.card.specs.Reading.{filesShown}
 use Rattle.card.specs.MeansParts.{limits-mean}
 use Rattle.card.specs.MeansProved.{sound-means}
+use Rattle.store.specs.Fitting.{FitOf}
 use Rattle.promises.specs.PlainList.{Item, shownBy}
 use Rattle.promises.specs.History.{World, afterCut, Reach, fresh, call, cut, cutIn, Reads, Demand3}
 use Rattle.promises.specs.State.{good-reads}
@@ -17,7 +18,7 @@ use Rattle.promises.specs.Inv.{Inv, inv-calm, inv-reads, inv-left}
 use Rattle.promises.specs.StepAll.{inv-step}
 use Rattle.promises.specs.Within.{inv-within}
 use Rattle.promises.specs.Demand.{card-possible}
-use Rattle.promises.specs.FitHistory.{FitOf, cut-closed, step}
+use Rattle.promises.specs.FitHistory.{cut-closed, step}
 use Rattle.promises.specs.Field.{SoundCard, Since, start, thenCall, thenCut, thenCutIn, Demand3Field}
 
 -- a sound card reads as what it shows

@@ -20,6 +20,7 @@ use Rattle.store.specs.Steps.{mountSteps, syncSteps, unmountSteps, syncWork, at
 use Rattle.store.specs.Mount.{Ended, openedFrom, mountDone, mount}
 use Rattle.store.specs.Edit.{putAt, remove}
 use Rattle.store.specs.Sync.{land, grown, syncDone, sync, unmountDone, unmount}
+use Rattle.store.specs.Fitting.{FitOf, FitOn, on-of}
 use Rattle.store.specs.Plans.{put-num, remove-num, both-num, make-num, mount-few, mount-good, mount-num, sync-live}
 use Rattle.promises.specs.PlainList.{Item, shownBy, shownIn}
 use Rattle.promises.specs.History.{Pending, World, Call, makeC, mountC, syncC, unmountC, putC, removeC, landC, getC, listC, freeC, play, allWritten, settled, afterCut, byNumber, endOpen, before, stepsOf, syncsBy, unmountsBy, edited, stepped, after, Reach, fresh, call, cut, cutIn}
@@ -29,11 +30,6 @@ use Rattle.promises.specs.StepAll.{not-top}
 use Rattle.promises.specs.FitCalm.{rest-fits, worn-fits}
 use Rattle.promises.specs.FitAll.{put-fits, remove-fits, sync-rest}
 use Rattle.promises.specs.FitMount.{mount-fits}
-
--- an open session fits
-abbrev pub FitOf : Session → List ℕ → Type 0
-FitOf Closed work = Unit
-FitOf (Open s) work = fits s work ≡ true
 
 abbrev pub FitW : World → Type 0
 FitW w = FitOf (w .session) (w .work)
@@ -132,9 +128,13 @@ step (getC n out) w h = (unfold after in h)
 step (listC lines) w h = (unfold after in h)
 step freeC w h = (unfold after in h)
 
--- "in every history an open session fits its working image"
+-- "no call meets a session that does not fit, after any history of calls and cuts": what every inner call requires
 pub always-fits : {w : World} → Reach w → FitOf (w .session) (w .work)
 always-fits (fresh g work ok) = cut-closed _ work
 always-fits (call {w = w} r c) = step c w (always-fits r)
 always-fits (cut r card work h) = cut-closed card work
 always-fits (cutIn r c n card work h) = cut-closed card work
+
+-- the same for a call that is lent a card
+pub always-fits-on : {w : World} → Reach w → (card : List ℕ) → FitOn (w .session) card (w .work)
+always-fits-on {w} r card = on-of (w .session) card (w .work) (always-fits r)

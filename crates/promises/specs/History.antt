@@ -161,6 +161,7 @@ after freeC w = w
 unfoldable pub pendingIn : Call → ℕ → World → Pending
 pendingIn c n w = play (take n (stepsOf c (before c w))) (before c w .pending)
 
+-- every session starts with our mount, only the newest is used, and nobody else touches the images: a call takes the world's own card, working image and session
 pub data Reach : World → Type 0 where
   fresh : (g : Geo) (work : List ℕ) → InLimits g → Reach (afterCut (freshCard g) work)
   call : {w : World} → Reach w → (c : Call) → Reach (after c w)

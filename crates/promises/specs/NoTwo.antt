@@ -24,12 +24,13 @@ use Rattle.store.specs.Mount.{mount}
 use Rattle.store.specs.Edit.{putAt, remove}
 use Rattle.store.specs.Look.{get, list, free}
 use Rattle.store.specs.Sync.{land, sync, unmount}
+use Rattle.store.specs.Fitting.{FitOf}
 use Rattle.promises.specs.Numbers.{Row, row, Gives, Exactly, Misshapen, closed, ofCard, unfit, makeRows, mountRows, putAtRows, removeRows, getRows, listRows, freeRows, landRows, syncRows, unmountRows, readRows, readListRows, readGetRows}
 use Rattle.promises.specs.RowLaws.{small, at-most, clash}
 use Rattle.promises.specs.NumbersWhole.{outside}
 use Rattle.promises.specs.NumbersProved.{numbers}
 use Rattle.promises.specs.History.{World, Reach}
-use Rattle.promises.specs.FitHistory.{FitOf, always-fits}
+use Rattle.promises.specs.FitHistory.{always-fits}
 use Rattle.promises.specs.Demand.{card-possible}
 
 -- ---- the statement

@@ -4,6 +4,7 @@ use Prim.Native.Nat.{ℕ}
 use Rattle.session.specs.declared.Session.{Session}
 use Rattle.session.specs.declared.Session.the-variants.{Closed, Open}
 use Rattle.session.specs.FitMeansProved.{fits-mean}
+use Rattle.store.specs.Fitting.{FitOf}
 use Rattle.promises.specs.RowLaws.{gives-one}
 use Rattle.promises.specs.NumbersProved.{numbers}
 use Rattle.promises.specs.Refusals.{refusals}
@@ -18,7 +19,6 @@ use Rattle.promises.specs.Barriers.{mount-barriers, sync-barriers, unmou
 use Rattle.promises.specs.LeavesProved.{land-changes, mount-changes, sync-changes, unmount-changes, counts-nothing}
 use Rattle.promises.specs.AlongProved.{simulation}
 use Rattle.promises.specs.FitKept.{FitsIn, keeps-fit}
-use Rattle.promises.specs.FitHistory.{FitOf}
 use Rattle.promises.specs.Demand.{demand-three, card-possible}
 use Rattle.promises.specs.Possible.{steps-possible}
 use Rattle.promises.specs.WholeProved.{cuts-read-whole}

@@ -18,6 +18,7 @@ use Rattle.session.specs.FitMeansProved.{fits-mean}
 use Rattle.store.specs.Mount.{Ended, mount}
 use Rattle.store.specs.Edit.{putAt, remove}
 use Rattle.store.specs.Sync.{sync, unmount}
+use Rattle.store.specs.Fitting.{FitOf}
 use Rattle.promises.specs.PlainList.{Item, shownBy, shownIn}
 use Rattle.promises.specs.Numbers.{Misshapen}
 use Rattle.promises.specs.RowLaws.{clash}
@@ -26,7 +27,6 @@ use Rattle.promises.specs.Refusals.{refusals}
 use Rattle.promises.specs.History.{Pending, World, Call, makeC, mountC, syncC, unmountC, putC, removeC, landC, getC, listC, freeC, byNumber, stepped, after, Reads}
 use Rattle.promises.specs.Inv.{Worn, OpenInv, mk}
 use Rattle.promises.specs.Steps.{to-live}
-use Rattle.promises.specs.FitHistory.{FitOf}
 use Rattle.promises.specs.Steady.{refused-same, land-shows}
 use Rattle.promises.specs.LeavesProved.{sync-changes, unmount-changes}
 use Rattle.promises.specs.WholeProved.{looks-as, reads-as}
