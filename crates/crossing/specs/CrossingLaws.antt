@@ -23,6 +23,7 @@ use Rattle.store.specs.Look.{get, free}
 use Rattle.store.specs.Mount.{Ended}
 use Rattle.store.specs.Sync.{land, sync, unmount}
 use Rattle.store.specs.CardLaws.{Ends}
+use Rattle.store.specs.Fitting.{FitOf, FitOn, on-of}
 use Rattle.crossing.specs.Crossing.{geoWith, openedOf, sessionOf, decoded, stateOf, openedBytes, encoded, reportBytes, reported, roomBytes, roomed, keptBy, kept}
 
 -- ---- a session from bytes
@@ -155,17 +156,22 @@ read-through e out {r} {b} p n h =
     let m : eqb (e .number) 0 ≡ true = rw p at (eq-eqb (r .number) 0 n) in
     (ap (λ (x : Report). x .number) p, rw m (h ∙ ap (λ (x : Report). reportBytes x) p))
 
-module _ (b work out : List ℕ) {z : Session} {r : Room} (i : z ≡ decoded b) (p : r ≡ free z work) where
-  taken : r ≡ free (decoded b) work
-  taken = p ∙ ap (λ (y : Session). free y work) i
+pub room-refused : (r : Room) (out : List ℕ) → r .number ≢ 0 → out ≡ roomed r out
+unfolding roomed
+room-refused r out n = rw (ne-eqb (r .number) 0 n)
 
-  pub free-refused : r .number ≢ 0 → (r .number ≡ free (decoded b) work .number) × (out ≡ roomed (free (decoded b) work) out)
-  unfolding roomed
-  free-refused n =
-      let m : eqb (free (decoded b) work .number) 0 ≡ false = rw taken at (ne-eqb (r .number) 0 n) in (ap (λ (x : Room). x .number) taken, rw m)
+pub room-through : (r : Room) (out : List ℕ) {u : List ℕ} → r .number ≡ 0 → u ≡ roomBytes r → u ≡ roomed r out
+unfolding roomed
+room-through r out n h = rw (eq-eqb (r .number) 0 n) h
 
-  pub free-through : {u : List ℕ} → r .number ≡ 0 → u ≡ roomBytes r → (r .number ≡ free (decoded b) work .number) × (u ≡ roomed (free (decoded b) work) out)
-  unfolding roomed
-  free-through n h =
-      let m : eqb (free (decoded b) work .number) 0 ≡ true = rw taken at (eq-eqb (r .number) 0 n) in
-      (ap (λ (x : Room). x .number) taken, rw m (h ∙ ap (λ (x : Room). roomBytes x) taken))
+pub free-over : (b work out : List ℕ) {z : Session} {r : Room} {k : ℕ} {u : List ℕ} → z ≡ decoded b → r ≡ free z work → (k ≡ r .number) × (u ≡ roomed r out)
+    → (k ≡ free (decoded b) work .number) × (u ≡ roomed (free (decoded b) work) out)
+free-over b work out i p h = rw (p, i) at h
+
+-- ---- a session that fits, as bytes
+
+pub fit-over : (b work : List ℕ) {s : Session} → s ≡ decoded b → FitOf (decoded b) work → FitOf s work
+fit-over b work q f = rw (← q) at f
+
+pub fit-on-over : (b card work : List ℕ) {s : Session} → s ≡ decoded b → FitOf (decoded b) work → FitOn s card work
+fit-on-over b card work {s} q f = on-of s card work (fit-over b work q f)

@@ -2,13 +2,15 @@
 ghost use mathlib.Core.Path.{_≡_};
 ghost use Prim.Native.Nat.{_+_, _*_};
 ghost use Rattle.words.specs.Bytes.{join};
-ghost use Rattle.crossing.specs.Crossing.{openedOf, sessionOf, decoded, stateOf, openedBytes, encoded, reportBytes, roomBytes};
+ghost use Rattle.crossing.specs.Crossing.{openedOf, sessionOf, decoded, stateOf, openedBytes, encoded, reportBytes, roomBytes, roomed, keptBy};
+use card::Answer;
 use card::Report;
 use counts::CrashCount;
 use counts::Geo;
 use counts::TxCount;
 use session::Opened;
 use session::Session;
+use store::Outcome;
 use store::Room;
 
 // The word of four bytes, least first.
@@ -118,4 +120,28 @@ pub fn room_bytes(r: Room) -> [u8; 8]
     words::put_word(&mut b, 0, r.free);
     words::put_word(&mut b, 4, r.waiting);
     b
+}
+
+// Free's figures go to the host's bytes; a refusal leaves them as lent.
+pub fn give_room(r: Room, out: &mut [u8; 8]) -> u32
+    ensures { λ k. ⌜ (k ≡ r .number) × (now (out .exit) ≡ roomed r (now (out .entry))) ⌝ }
+{
+    if r.number != 0 {
+        return r.number;
+    }
+    *out = room_bytes(r);
+    r.number
+}
+
+// The session that a call gives goes to the host's bytes; a refusal leaves them as lent.
+pub fn keep(o: Outcome, session: &mut [u8; 24]) -> Answer
+    ensures { λ r. ⌜ (r ≡ o .answer) × (now (session .exit) ≡ keptBy (o .answer) (o .session) (now (session .entry))) ⌝ }
+{
+    let answer = o.answer;
+    if o.answer.number != 0 {
+        return answer;
+    }
+    let next = o.session;
+    *session = encoded(next);
+    answer
 }

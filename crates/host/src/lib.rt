@@ -20,7 +20,7 @@ ghost use Rattle.store.specs.Edit.{put, putAt, remove};
 ghost use Rattle.store.specs.Look.{get, free};
 ghost use Rattle.store.specs.Mount.{mountPlan, mount};
 ghost use Rattle.store.specs.Sync.{bothPlan, land, sync, unmount};
-ghost use Rattle.crossing.specs.Crossing.{geoWith, decoded, encoded, reported, roomed, keptBy, kept};
+ghost use Rattle.crossing.specs.Crossing.{geoWith, decoded, encoded, reported, roomed, kept};
 ghost use Rattle.crossing.specs.FirstSteps.{planNumber, mountFirst, syncFirst, unmountFirst};
 use card::Answer;
 use card::refusal;
@@ -32,8 +32,9 @@ use cards::unmount;
 use counts::Geo;
 use crossing::decoded;
 use crossing::encoded;
+use crossing::give_room;
+use crossing::keep;
 use crossing::report_bytes;
-use crossing::room_bytes;
 use edits::put;
 use edits::put_at;
 use edits::remove;
@@ -46,7 +47,6 @@ use reading::read_get;
 use sectors::Sector;
 use session::Opened;
 use session::Session;
-use store::Outcome;
 use syncing::sync_steps;
 use syncing::unmount_steps;
 
@@ -148,24 +148,7 @@ pub extern "C" fn store_free(session: &[u8; 24], work: &[u8], out: &mut [u8; 8])
     let b = *session;
     let s = decoded(b);
     let f = free(s, work);
-    if f.number != 0 {
-        return f.number;
-    }
-    *out = room_bytes(f);
-    f.number
-}
-
-// The session that a call gives goes to the host's bytes; a refusal leaves them as lent.
-fn keep(o: Outcome, session: &mut [u8; 24]) -> Answer
-    ensures { λ r. ⌜ (r ≡ o .answer) × (now (session .exit) ≡ keptBy (o .answer) (o .session) (now (session .entry))) ⌝ }
-{
-    let answer = o.answer;
-    if o.answer.number != 0 {
-        return answer;
-    }
-    let next = o.session;
-    *session = encoded(next);
-    answer
+    give_room(f, out)
 }
 
 // "sync 4, 1, 2, 9", with the number of sectors written; on a refusal the session's bytes stay as lent.

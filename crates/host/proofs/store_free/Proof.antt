@@ -1,5 +1,5 @@
 -- The two figures in the session that the bytes hold, or the output as lent. Assumes nothing.
-use Rattle.crossing.specs.CrossingLaws.{free-refused, free-through}
+use Rattle.crossing.specs.CrossingLaws.{free-over}
 use borrow.Author.Needs.{needs}
 use Rattle.host.proofs.store_free.Statement.{statement}
 use Rattle.host.proofs.store_free.Tie as tie
@@ -10,15 +10,11 @@ decoded-requires c κs = search needs
 free-requires : tie.Need-free-requires
 free-requires c κs = search needs
 
+give-room-requires : tie.Need-give-room-requires
+give-room-requires c κs = search needs
+
 returns : tie.Need-returns
-returns c = free-refused _ _ _ (c .before .before .before .decoded .ensures) (c .before .before .free .ensures) (c .if1 .taken)
-
-room-bytes-requires : tie.Need-room-bytes-requires
-room-bytes-requires c κs = search needs
-
-returns-2 : tie.Need-returns-2
-returns-2 c = free-through _ _ _ (c .before .before .before .before .decoded .ensures) (c .before .before .before .free .ensures) (c .before .if1 .left) (c .room-bytes .ensures)
+returns c = free-over _ _ _ (c .before .before .decoded .ensures) (c .before .free .ensures) (c .give-room .ensures)
 
 pub store-free-spec : {M : Type 1} → statement M
-store-free-spec =
-    tie.close (tie.spec decoded-requires free-requires returns room-bytes-requires returns-2)
+store-free-spec = tie.close (tie.spec decoded-requires free-requires give-room-requires returns)

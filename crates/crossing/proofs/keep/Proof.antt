@@ -1,9 +1,9 @@
 -- The answer, and the session in the bytes or the bytes as lent. Assumes nothing.
 use mathlib.Core.Path.{refl}
 use Rattle.crossing.specs.CrossingLaws.{keep-refused, keep-through}
 use borrow.Author.Needs.{needs}
-use Rattle.host.proofs.keep.Statement.{statement}
-use Rattle.host.proofs.keep.Tie as tie
+use Rattle.crossing.proofs.keep.Statement.{statement}
+use Rattle.crossing.proofs.keep.Tie as tie
 
 returns : tie.Need-returns
 returns c = (refl, keep-refused _ _ _ (c .if1 .taken))
