@@ -14,7 +14,7 @@ give-room-requires : tie.Need-give-room-requires
 give-room-requires c κs = search needs
 
 returns : tie.Need-returns
-returns c = free-over _ _ _ (c .before .before .decoded .ensures) (c .before .free .ensures) (c .give-room .ensures)
+returns c = free-over _ _ _ (c .before .before .before .decoded .ensures) (c .before .before .free .ensures) (c .give-room .ensures)
 
 pub store-free-spec : {M : Type 1} → statement M
 store-free-spec = tie.close (tie.spec decoded-requires free-requires give-room-requires returns)
