@@ -34,6 +34,7 @@ mod op;
 mod pages;
 mod parse;
 pub mod parts;
+mod replay;
 mod shrink;
 mod summary;
 mod track;
@@ -41,6 +42,7 @@ mod world;
 
 pub use op::{Cuttable, Op, Which};
 pub use parse::{history, text};
+pub use replay::replay;
 pub use shrink::{fault, shrink};
 pub use summary::{table, total, Row, Tally};
 pub use world::{Outcome, World};

@@ -10,8 +10,17 @@ use std::process::ExitCode;
 use std::{env, fs, io};
 
 const DEFAULT_FOLDER: &str = "../crates/reader_cases/data";
+const HELP: &str = "\
+cards [FOLDER [REPORTS]]  writes the stored cards into a folder, without one into
+                          ../crates/reader_cases/data, and what the reading
+                          program must print for each into a file, or prints it
+cards --help              this";
 
 fn main() -> ExitCode {
+    if env::args().nth(1).as_deref() == Some("--help") {
+        println!("{HELP}");
+        return ExitCode::SUCCESS;
+    }
     let mut arguments = env::args_os().skip(1).map(PathBuf::from);
     let folder = arguments.next().unwrap_or_else(|| DEFAULT_FOLDER.into());
     let reports = arguments.next();

@@ -1,18 +1,29 @@
-//! The cut bench: `cutbench [--seed N] [--seconds N | --short]`, or
-//! `cutbench --replay FILE-OR-TEXT`. Ends with 1 on any disagreement.
+//! The cut bench: see `cutbench --help`. Ends with 1 on any disagreement.
 
 use bench::cutbench::parts::{run, Failure, Limit, Pair, Plan, PARTS};
-use bench::cutbench::{fault, history, table, text, total, Tally};
+use bench::cutbench::{history, replay, table, text, total, Tally};
 use bench::store::{Plain, Proved};
 use std::env;
 use std::fs;
-use std::io::{stderr, IsTerminal, Write};
+use std::io::{stderr, ErrorKind, IsTerminal, Write};
 use std::process::ExitCode;
 use std::sync::Mutex;
 use std::time::{Duration, Instant, SystemTime, UNIX_EPOCH};
 
 const PAIR: Pair = Pair(&Proved, &Plain);
-const USAGE: &str = "cutbench [--seed N] [--seconds N | --short] | --replay FILE-OR-TEXT";
+const HELP: &str = "\
+cutbench                   runs for 120 seconds and more, with a seed from the
+                           clock, which is printed
+cutbench --seconds N       the parts that have no end of their own take N seconds
+                           together; from 60 on larger products of cards are tried
+cutbench --seed N          with this seed
+cutbench --short           the gate's run: always the same histories
+cutbench --replay HISTORY  one history from a file, or given as text, its lines
+                           ended by newlines or `;`: tells of each line what it
+                           gave: number, count, free and waiting, and the files
+cutbench --help            this
+
+Ends with 0 if all agreed, 1 after a disagreement, 2 if it was not understood.";
 /// The gate's run.
 const SHORT_SEED: u64 = 1;
 const DEFAULT_SECONDS: u64 = 120;
@@ -20,7 +31,11 @@ const DEFAULT_SECONDS: u64 = 120;
 fn main() -> ExitCode {
     let arguments: Vec<String> = env::args().skip(1).collect();
     let outcome = match arguments.as_slice() {
-        [flag, what] if flag == "--replay" => replay(what),
+        [flag] if flag == "--help" => {
+            println!("{HELP}");
+            Ok(true)
+        }
+        [flag, what] if flag == "--replay" => replay_of(what),
         _ => plan(&arguments).map(|plan| bench(&plan)),
     };
     match outcome {
@@ -38,14 +53,17 @@ fn plan(arguments: &[String]) -> Result<Plan, String> {
     let mut rest = arguments.iter();
     while let Some(flag) = rest.next() {
         let mut number = || {
-            let text = rest.next().ok_or(USAGE)?;
-            text.parse::<u64>().map_err(|_| USAGE)
+            let text = rest
+                .next()
+                .ok_or(format!("{flag} wants a number\n{HELP}"))?;
+            let parsed = text.parse::<u64>();
+            parsed.map_err(|_| format!("{flag} wants a number, not {text}"))
         };
         match flag.as_str() {
             "--short" => short = true,
             "--seed" => seed = Some(number()?),
             "--seconds" => seconds = number()?,
-            _ => return Err(USAGE.into()),
+            _ => return Err(format!("{flag} is not understood\n{HELP}")),
         }
     }
     Ok(if short {
@@ -102,14 +120,15 @@ fn bench(plan: &Plan) -> bool {
     agreed && complete
 }
 
-/// Runs one history, from a file or as given, and says what happens.
-fn replay(what: &str) -> Result<bool, String> {
-    let given = fs::read_to_string(what).unwrap_or_else(|_| what.to_string());
-    let list = history(&given)?;
-    let (tally, wrong) = fault(PAIR.0, PAIR.1, &list);
-    println!("{} calls, {} cards", tally.calls, tally.cards);
-    if let Some((at, what)) = &wrong {
-        println!("line {}, {}: {what}", at + 1, list[*at]);
-    }
-    Ok(wrong.is_none())
+/// Runs one history, from a file or as given, and tells what happens.
+fn replay_of(what: &str) -> Result<bool, String> {
+    let list = match fs::read_to_string(what) {
+        Ok(text) => history(&text).map_err(|fault| format!("{what}: {fault}"))?,
+        Err(fault) if fault.kind() == ErrorKind::NotFound => {
+            let none = |why| format!("{what}: no such file, and no history either: {why}");
+            history(what).map_err(none)?
+        }
+        Err(fault) => return Err(format!("{what}: {fault}")),
+    };
+    Ok(replay(PAIR, &list, &mut |line| println!("{line}")))
 }

@@ -68,12 +68,39 @@ impl Image {
     }
 }
 
-/// What a host lends to a store.
+/// An array that is lent, between guard bytes.
+#[repr(C)]
+#[derive(Clone, Debug, PartialEq)]
+pub struct Lent<const N: usize> {
+    before: [u8; BEFORE],
+    pub bytes: [u8; N],
+    after: [u8; AFTER],
+}
+
+impl<const N: usize> Lent<N> {
+    pub fn of(bytes: [u8; N]) -> Lent<N> {
+        Lent {
+            before: [GUARD; BEFORE],
+            bytes,
+            after: [GUARD; AFTER],
+        }
+    }
+
+    pub fn guarded(&self) -> bool {
+        (self.before, self.after) == ([GUARD; BEFORE], [GUARD; AFTER])
+    }
+}
+
+/// What a host lends to a store. The session lies between guard bytes too, in
+/// the order of these fields.
+#[repr(C)]
 #[derive(Clone)]
 pub struct Side {
     pub card: Image,
     pub work: Image,
+    before: [u8; BEFORE],
     pub session: SessionBytes,
+    after: [u8; AFTER],
 }
 
 impl Side {
@@ -82,7 +109,9 @@ impl Side {
         Side {
             card: Image::filled(0xEE, length),
             work: Image::filled(0xEE, length),
+            before: [GUARD; BEFORE],
             session: [0; 24],
+            after: [GUARD; AFTER],
         }
     }
 
@@ -109,6 +138,9 @@ impl Side {
         if !self.card.guarded() || !self.work.guarded() {
             return Some("bytes outside an image were written".into());
         }
+        if (self.before, self.after) != ([GUARD; BEFORE], [GUARD; AFTER]) {
+            return Some("bytes outside the session were written".into());
+        }
         first_difference("card", &self.card, &other.card)
             .or_else(|| first_difference("working image", &self.work, &other.work))
     }
@@ -123,4 +155,32 @@ fn first_difference(name: &str, one: &Image, other: &Image) -> Option<String> {
     let at = at.unwrap_or(one.len().min(other.len()));
     let pair = (one.get(at), other.get(at));
     Some(format!("{name} differs at byte {at}: {pair:?}"))
+}
+
+#[cfg(test)]
+mod tests {
+    use super::*;
+
+    #[test]
+    fn a_byte_beside_what_is_lent_is_seen() {
+        let right = Side::rubbish(512);
+        let mut wrong = right.clone();
+        assert_eq!(wrong.differs(&right), None);
+        wrong.after[0] ^= 1;
+        assert!(wrong.differs(&right).is_some());
+        let mut lent = Lent::of([0; 16]);
+        assert!(lent.guarded());
+        lent.before[BEFORE - 1] ^= 1;
+        assert!(!lent.guarded());
+    }
+
+    #[test]
+    fn the_guards_of_a_session_touch_it() {
+        use std::mem::offset_of;
+        let session = offset_of!(Side, session);
+        assert_eq!(offset_of!(Side, before) + BEFORE, session);
+        assert_eq!(offset_of!(Side, after), session + 24);
+        assert_eq!(offset_of!(Lent<16>, bytes), BEFORE);
+        assert_eq!(offset_of!(Lent<16>, after), BEFORE + 16);
+    }
 }

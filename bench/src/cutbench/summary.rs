@@ -16,6 +16,8 @@ pub struct Tally {
     pub cards: u64,
     /// How often each call gave each number.
     pub given: [[u64; 12]; 10],
+    /// The first call since this was last cleared, and its number.
+    pub first: Option<(Call, u32)>,
 }
 
 /// One of the calls for a host, as a row of the numbers given.
@@ -47,10 +49,19 @@ const NUMBERS: [(Call, &str, &[usize]); 10] = [
     (Call::ReadList, "read-list", &[0, 1, 2, 10]),
 ];
 
+impl Call {
+    /// The name in the tables.
+    pub fn name(self) -> &'static str {
+        let named = NUMBERS.iter().find(|(call, ..)| *call == self);
+        named.map_or("", |(_, name, _)| name)
+    }
+}
+
 impl Tally {
     /// Counts a call and its number.
     pub fn count(&mut self, call: Call, number: u32) {
         self.calls += 1;
+        self.first = self.first.or(Some((call, number)));
         let row = &mut self.given[call as usize];
         if let Some(place) = row.get_mut(number as usize) {
             *place += 1;

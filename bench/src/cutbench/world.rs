@@ -1,7 +1,7 @@
 //! The two stores with their images, and how a line of a history is run.
 
 use super::files::{sectors, told, with_contents, Files};
-use super::image::{Image, Side};
+use super::image::{Image, Lent, Side};
 use super::op::{Op, Which};
 use super::summary::{Call, Tally};
 use super::track::Track;
@@ -165,11 +165,17 @@ impl<'a> World<'a> {
     /// Reads a card by both stores: the number, and files and clear bits.
     pub(super) fn read(&mut self, card: &[u8]) -> Outcome<(u32, u32, u32)> {
         const RUBBISH: [u8; 16] = [0xEE; 16];
+        let mut guarded = true;
         let [one, other] = self.stores.map(|store| {
-            let mut out = RUBBISH;
-            (store.read(card, &mut out), out)
+            let mut out = Lent::of(RUBBISH);
+            let number = store.read(card, &mut out.bytes);
+            guarded &= out.guarded();
+            (number, out.bytes)
         });
         self.tally.count(Call::Read, one.0);
+        if !guarded {
+            return Err("read writes outside its output".into());
+        }
         if one != other {
             return Err(format!("read gives {one:?}, the plain version {other:?}"));
         }

@@ -1,5 +1,6 @@
 //! The cards that are measured, and the calls on them.
 
+use crate::dice::Dice;
 use crate::host::{Goal, SessionBytes};
 use crate::plain::{self, Line, Session, MOST_SECTORS, PAGE_SECTORS, SECTOR};
 use crate::store::Store;
@@ -23,9 +24,52 @@ pub const CARDS: [Geometry; 6] = [
     (MOST_SECTORS, 512, 64),
 ];
 
+/// The cards that are measured with every directory: 256 files.
+pub const MANY_FILES: [Geometry; 2] = [(PAGE_SECTORS, 8, 64), (PAGE_SECTORS, 512, 64)];
+
 /// The first data sector of a card.
-fn first_data((s, t, d): Geometry) -> u32 {
+pub fn first_data((s, t, d): Geometry) -> u32 {
     plain::Geometry::within_limits(s, t, d).map_or(0, |geometry| geometry.f())
+}
+
+/// What the directory holds.
+#[derive(Clone, Copy, Debug, PartialEq, Eq)]
+pub enum Directory {
+    Fresh,
+    /// A file in every entry, their runs in the order of the entries, on about
+    /// half of the data.
+    Full,
+    /// The same files, their entries in another order.
+    Shuffled,
+    /// As full, with names of 32 bytes that share their first 29.
+    LongNames,
+}
+
+impl Directory {
+    pub const ALL: [Directory; 4] = [
+        Directory::Fresh,
+        Directory::Full,
+        Directory::Shuffled,
+        Directory::LongNames,
+    ];
+
+    /// The name in the tables.
+    pub fn name(self) -> &'static str {
+        match self {
+            Directory::Fresh => "fresh",
+            Directory::Full => "full",
+            Directory::Shuffled => "shuffled",
+            Directory::LongNames => "long names",
+        }
+    }
+
+    fn name_of(self, i: usize) -> Vec<u8> {
+        match self {
+            Directory::LongNames => format!("calibration-of-the-left-arm-t{i:03}"),
+            _ => format!("arm_{i:03}"),
+        }
+        .into_bytes()
+    }
 }
 
 /// The measured calls. A put has a number of sectors.
@@ -39,7 +83,13 @@ pub enum Call {
     PutAt,
     /// A put of one sector with the last sector as its goal.
     PutAtEnd,
+    Free,
+    /// A sync after a put of one sector.
     Sync,
+    /// A sync with nothing changed since the mount.
+    SyncNothing,
+    /// A sync to a card of which every byte differs.
+    SyncAll,
     Land,
     /// A land of sector S, which is refused with 11 after the fit test.
     Fit,
@@ -50,8 +100,8 @@ pub enum Call {
     Sound,
 }
 
-/// All of them, in the order of the tables.
-pub const CALLS: [Call; 13] = [
+/// The calls of the long table, in its order.
+pub const CALLS: [Call; 15] = [
     Call::Make,
     Call::Read,
     Call::Mount,
@@ -60,7 +110,9 @@ pub const CALLS: [Call; 13] = [
     Call::Put(16),
     Call::PutAt,
     Call::PutAtEnd,
+    Call::Free,
     Call::Sync,
+    Call::SyncNothing,
     Call::Land,
     Call::Fit,
     Call::List,
@@ -77,13 +129,33 @@ impl Call {
             Call::Put(sectors) => format!("put {sectors}"),
             Call::PutAt => "put 1, goal in the middle".into(),
             Call::PutAtEnd => "put 1, goal at the end".into(),
+            Call::Free => "free".into(),
             Call::Sync => "sync".into(),
+            Call::SyncNothing => "sync, nothing changed".into(),
+            Call::SyncAll => "sync, all changed".into(),
             Call::Land => "land".into(),
             Call::Fit => "land, no such sector".into(),
             Call::List => "list".into(),
             Call::ReadList => "reading's list".into(),
             Call::Sound => "reading's list, no line".into(),
         }
+    }
+
+    /// The bytes of a put of so many sectors; its last byte is missing.
+    pub fn content_bytes(self) -> usize {
+        match self {
+            Call::Put(sectors) => (SECTOR * sectors).saturating_sub(1),
+            Call::PutAt | Call::PutAtEnd => SECTOR - 1,
+            _ => 0,
+        }
+    }
+
+    /// Whether it starts with no session.
+    fn on_a_card(self) -> bool {
+        matches!(
+            self,
+            Call::Make | Call::Read | Call::Mount | Call::ReadList | Call::Sound
+        )
     }
 }
 
@@ -101,69 +173,104 @@ pub struct Bed {
 }
 
 impl Bed {
-    /// The state from which a call is measured: a fresh card, or one with a
-    /// full directory and about half of its data in use.
-    pub fn before(call: Call, geometry: Geometry, full: bool) -> Bed {
+    /// The state from which a call is measured.
+    pub fn before(call: Call, geometry: Geometry, directory: Directory) -> Bed {
+        Bed::filled(geometry, directory).ready(call)
+    }
+
+    /// A card with its directory, and no session.
+    pub fn filled(geometry: Geometry, directory: Directory) -> Bed {
+        let mut bed = Bed::fresh(geometry);
+        if directory == Directory::Fresh {
+            return bed;
+        }
+        bed.name = directory.name_of(bed.lines.len() - 1);
+        bed.fill(directory);
+        if directory == Directory::Shuffled {
+            bed.shuffle();
+        }
+        bed
+    }
+
+    /// The same, ready for a call.
+    pub fn ready(&self, call: Call) -> Bed {
+        let mut bed = self.clone();
+        if !call.on_a_card() {
+            bed.mount();
+        }
+        if matches!(call, Call::Sync | Call::Land | Call::Fit) {
+            bed.put(&self.name, 1);
+        }
+        if call == Call::SyncAll {
+            bed.card = bed.work.iter().map(|byte| !byte).collect();
+        }
+        bed
+    }
+
+    /// A fresh card and a closed session.
+    pub fn fresh(geometry: Geometry) -> Bed {
         let (s, t, d) = geometry;
         let mut card = vec![0xEE; SECTOR * s as usize];
         assert_eq!(plain::make(s, t, d, &mut card), plain::DONE);
-        let entries = 4 * d as usize;
-        let name = if full { entries - 1 } else { 0 };
-        let mut bed = Bed {
+        Bed {
             geometry,
             work: card.clone(),
             card,
             session: Session::Closed.encode(),
-            name: name_of(name),
-            lines: vec![Line::default(); entries],
-        };
-        if full {
-            bed.fill(entries, s - first_data(geometry));
+            name: Directory::Fresh.name_of(0),
+            lines: vec![Line::default(); 4 * d as usize],
         }
-        bed.mount_for(call);
-        bed
     }
 
-    /// A session of its own fills the directory and is unmounted.
-    fn fill(&mut self, entries: usize, data: u32) {
-        let (_, mut session) = plain::mount(&mut self.card, &mut self.work);
-        let half = data as usize / 2;
-        for i in 0..entries {
-            let sectors = (half / entries).max(usize::from(i < half));
-            let sectors = if half < entries && i >= half {
-                0
-            } else {
-                sectors
-            };
-            let content = vec![1; SECTOR * sectors];
-            let number = plain::put(&session, &mut self.work, &name_of(i), &content);
-            assert_eq!(number, plain::DONE);
-        }
-        let number = plain::unmount(&mut session, &mut self.card, &mut self.work);
+    /// By the plain version, as is all that goes before a measured call.
+    pub fn mount(&mut self) {
+        let (number, session) = plain::mount(&mut self.card, &mut self.work);
         assert_eq!(number, plain::DONE);
-    }
-
-    /// Session calls start after a mount; sync and land after a put as well.
-    fn mount_for(&mut self, call: Call) {
-        if matches!(
-            call,
-            Call::Make | Call::Read | Call::Mount | Call::ReadList | Call::Sound
-        ) {
-            return;
-        }
-        let (_, session) = plain::mount(&mut self.card, &mut self.work);
-        if matches!(call, Call::Sync | Call::Land | Call::Fit) {
-            let number = plain::put(&session, &mut self.work, &self.name, &[1; SECTOR]);
-            assert_eq!(number, plain::DONE);
-        }
         self.session = session.encode();
     }
 
-    /// Brings the buffers back to those of `from`, by a copy.
-    pub fn prepare(&mut self, from: &Bed) {
-        self.card.copy_from_slice(&from.card);
-        self.work.copy_from_slice(&from.work);
-        self.session = from.session;
+    /// Puts a file of so many sectors.
+    pub fn put(&mut self, name: &[u8], sectors: usize) {
+        let session = Session::decode(&self.session);
+        let content = vec![1; SECTOR * sectors];
+        let number = plain::put(&session, &mut self.work, name, &content);
+        assert_eq!(number, plain::DONE);
+    }
+
+    pub fn unmount(&mut self) {
+        let mut session = Session::decode(&self.session);
+        let number = plain::unmount(&mut session, &mut self.card, &mut self.work);
+        assert_eq!(number, plain::DONE);
+        self.session = session.encode();
+    }
+
+    /// A session of its own fills the directory and is unmounted.
+    fn fill(&mut self, directory: Directory) {
+        self.mount();
+        let entries = self.lines.len();
+        let half = (self.geometry.0 - first_data(self.geometry)) as usize / 2;
+        for i in 0..entries {
+            let sectors = if i < half { (half / entries).max(1) } else { 0 };
+            self.put(&directory.name_of(i), sectors);
+        }
+        self.unmount();
+    }
+
+    /// Puts the entries of the card into another order, always the same.
+    fn shuffle(&mut self) {
+        const ENTRY: usize = 128;
+        let end = SECTOR * first_data(self.geometry) as usize;
+        let begin = end - ENTRY * self.lines.len();
+        let mut dice = Dice::new(1);
+        for last in (1..self.lines.len()).rev() {
+            let other = dice.below(last + 1);
+            let [one, other] = [last, other].map(|i| begin + ENTRY * i);
+            let kept = self.card[one..one + ENTRY].to_vec();
+            self.card.copy_within(other..other + ENTRY, one);
+            self.card[other..other + ENTRY].copy_from_slice(&kept);
+        }
+        assert!(plain::read(&self.card).is_ok());
+        self.work.copy_from_slice(&self.card);
     }
 
     /// Makes a call and gives its number.
@@ -181,7 +288,10 @@ impl Bed {
                 let (name, work) = (&self.name, &mut self.work);
                 store.put_at(&self.session, work, name, content, goal)
             }
-            Call::Sync => store.sync(&mut self.session, &mut self.card, &mut self.work),
+            Call::Free => store.free(&self.session, &self.work, &mut [0; 8]),
+            Call::Sync | Call::SyncNothing | Call::SyncAll => {
+                store.sync(&mut self.session, &mut self.card, &mut self.work)
+            }
             Call::Land => {
                 let sector = first_data(self.geometry);
                 store.land(&self.session, &mut self.card, &self.work, sector)
@@ -195,8 +305,4 @@ impl Bed {
             Call::Sound => store.read_list(&self.card, &mut []).number,
         }
     }
-}
-
-fn name_of(i: usize) -> Vec<u8> {
-    format!("arm_{i:03}").into_bytes()
 }

@@ -1,79 +1,189 @@
-//! Medians of many runs, the two stores in turn.
+//! Times of several things that take turns on the same cards.
 
-use super::bed::{Bed, Call};
-use crate::plain::{PAGE_SECTORS, SECTOR};
+use super::bed::{first_data, Bed, Call};
+use crate::plain::SECTOR;
 use crate::store::{Plain, Proved, Store};
 use std::hint::black_box;
 use std::time::{Duration, Instant};
 
-/// What was measured of one call; times are medians in nanoseconds.
-#[derive(Clone, Copy)]
-pub struct Measured {
-    pub number: u32,
-    pub proved: f64,
-    pub plain: f64,
-    /// For a sync or a mount, one copy of the bytes that it moves.
-    pub copy: f64,
-    /// For a sync the proved store's fit test alone, for a mount its soundness
-    /// test.
-    pub test: f64,
+/// Most runs of a race, and the fewest, however long they take.
+const MOST_RUNS: usize = 4_001;
+const LEAST_RUNS: usize = 15;
+/// A look over some sectors is timed so often in a row.
+const LOOKS: u32 = 8;
+
+/// One thing that is timed: on which of the beds, how often in a row, and what.
+pub struct Lane<'a> {
+    bed: usize,
+    times: u32,
+    run: Box<dyn FnMut(&mut Bed) -> u32 + 'a>,
 }
 
-/// Most runs of a call, and the time after which there are no more.
-const MOST_RUNS: usize = 4_001;
-const LEAST_RUNS: usize = 51;
-const LONGEST: Duration = Duration::from_millis(800);
-/// A card of more than one page is run at least so often: each run copies it
-/// four times and more.
-const LEAST_RUNS_PAGED: usize = 15;
+impl<'a> Lane<'a> {
+    /// Anything that gives a number.
+    pub fn of(bed: usize, run: impl FnMut(&mut Bed) -> u32 + 'a) -> Lane<'a> {
+        let run = Box::new(run);
+        Lane { bed, times: 1, run }
+    }
 
-/// Measures a call from the state `from`. Before each timed call the buffers
-/// are copied from `from`, so all are in the cache as far as it reaches, and
-/// the stores take turns in who is first.
-pub fn measure(call: Call, from: &Bed) -> Measured {
-    let content = vec![7; content_bytes(call)];
-    let mut bed = from.clone();
-    let mut times: [Vec<f64>; 4] = Default::default();
-    let mut numbers = [0; 2];
+    fn call(bed: usize, store: &'static dyn Store, call: Call) -> Lane<'a> {
+        let content = vec![7; call.content_bytes()];
+        Lane::of(bed, move |bed| bed.call(store, call, &content))
+    }
+
+    pub fn proved(bed: usize, call: Call) -> Lane<'a> {
+        Lane::call(bed, &Proved, call)
+    }
+
+    pub fn plain(bed: usize, call: Call) -> Lane<'a> {
+        Lane::call(bed, &Plain, call)
+    }
+
+    /// One pass: the sum of the 64-bit words over the sectors before the data.
+    pub fn pass(bed: usize) -> Lane<'a> {
+        let mut lane = Lane::of(bed, |bed| {
+            let end = SECTOR * first_data(bed.geometry) as usize;
+            (0..LOOKS).for_each(|_| sum(&bed.work[..end]));
+            0
+        });
+        lane.times = LOOKS;
+        lane
+    }
+
+    /// The same sum over the pages that the bitmap has in one view, and in two.
+    pub fn pages(bed: usize) -> Lane<'a> {
+        let mut lane = Lane::of(bed, |bed| {
+            let (_, t, d) = bed.geometry;
+            let end = SECTOR * (first_data(bed.geometry) - d) as usize;
+            let begin = SECTOR * (t as usize + 2);
+            (0..LOOKS).for_each(|_| sum(&bed.work[begin..end]));
+            0
+        });
+        lane.times = LOOKS;
+        lane
+    }
+
+    /// One plain compare of the two images, sector by sector.
+    pub fn compare(bed: usize) -> Lane<'a> {
+        Lane::of(bed, |bed| differing(&bed.card, &bed.work))
+    }
+
+    /// One plain copy of the working image to the card.
+    pub fn copy(bed: usize) -> Lane<'a> {
+        Lane::of(bed, |bed| {
+            bed.card.copy_from_slice(black_box(&bed.work));
+            0
+        })
+    }
+}
+
+#[inline(never)]
+fn sum(bytes: &[u8]) {
+    let word = |part: &[u8]| part.try_into().map_or(0, u64::from_le_bytes);
+    let words = black_box(bytes).chunks_exact(8).map(word);
+    black_box(words.fold(0, u64::wrapping_add));
+}
+
+/// How many sectors of two images differ.
+#[inline(never)]
+fn differing(one: &[u8], other: &[u8]) -> u32 {
+    let pairs = one.chunks_exact(SECTOR).zip(other.chunks_exact(SECTOR));
+    pairs.filter(|(a, b)| a != b).count() as u32
+}
+
+/// What came out of a lane.
+#[derive(Clone, Copy, Debug)]
+pub struct Timed {
+    /// The time in nanoseconds that one run in ten was below.
+    pub time: f64,
+    /// What the last run gave.
+    pub number: u32,
+}
+
+/// Runs the lanes in turn, for about so long. Before each run its bed is
+/// brought back to what it was, by copying the sectors that some lane changes;
+/// so all is as warm as the cache allows.
+pub fn race<const N: usize>(beds: &[Bed], mut lanes: [Lane; N], spent: Duration) -> [Timed; N] {
+    let mut grounds: Vec<Ground> = beds.iter().map(Ground::new).collect();
+    for lane in &mut lanes {
+        let ground = &mut grounds[lane.bed];
+        (lane.run)(&mut ground.live);
+        ground.learn();
+    }
+    let mut times: [Vec<f64>; N] = std::array::from_fn(|_| Vec::new());
+    let mut numbers = [0; N];
     let begun = Instant::now();
-    let stores: [&dyn Store; 2] = [&Proved, &Plain];
-    let least = if from.geometry.0 > PAGE_SECTORS {
-        LEAST_RUNS_PAGED
-    } else {
-        LEAST_RUNS
-    };
     for run in 0..MOST_RUNS {
-        if run >= least && begun.elapsed() > LONGEST {
+        if run >= LEAST_RUNS && begun.elapsed() > spent {
             break;
         }
-        for turn in [run % 2, (run + 1) % 2] {
-            bed.prepare(from);
-            let (time, number) = timed(|| bed.call(stores[turn], call, &content));
-            times[turn].push(time);
-            numbers[turn] = number;
-        }
-        if let Some((copied, test)) = inside(call, from) {
-            bed.prepare(from);
-            times[2].push(timed(|| copy(&mut bed, copied)).0);
-            bed.prepare(from);
-            times[3].push(timed(|| bed.call(&Proved, test, &[])).0);
+        for turn in 0..N {
+            let i = (run + turn) % N;
+            let lane = &mut lanes[i];
+            let ground = &mut grounds[lane.bed];
+            ground.prepare();
+            let (time, number) = timed(|| (lane.run)(&mut ground.live));
+            times[i].push(time);
+            numbers[i] = number;
         }
     }
-    assert_eq!(numbers[0], numbers[1]);
     let idle = clock();
-    let [proved, plain, copy, test] = times.map(|list| (median(list) - idle).max(0.1));
-    Measured {
-        number: numbers[0],
-        proved,
-        plain,
-        copy,
-        test,
+    std::array::from_fn(|i| Timed {
+        time: (low(&mut times[i]) - idle).max(0.1) / f64::from(lanes[i].times),
+        number: numbers[i],
+    })
+}
+
+/// A bed, as it is before each run and as it is, and the sectors that some lane
+/// changes.
+struct Ground<'a> {
+    from: &'a Bed,
+    live: Bed,
+    card: Vec<usize>,
+    work: Vec<usize>,
+}
+
+impl Ground<'_> {
+    fn new(from: &Bed) -> Ground<'_> {
+        Ground {
+            from,
+            live: from.clone(),
+            card: Vec::new(),
+            work: Vec::new(),
+        }
+    }
+
+    /// Notes what was changed, and brings it back.
+    fn learn(&mut self) {
+        note(&mut self.card, &self.from.card, &self.live.card);
+        note(&mut self.work, &self.from.work, &self.live.work);
+        self.prepare();
+    }
+
+    fn prepare(&mut self) {
+        bring_back(&self.card, &self.from.card, &mut self.live.card);
+        bring_back(&self.work, &self.from.work, &mut self.live.work);
+        self.live.session = self.from.session;
+    }
+}
+
+fn note(sectors: &mut Vec<usize>, from: &[u8], live: &[u8]) {
+    let pairs = from.chunks(SECTOR).zip(live.chunks(SECTOR)).enumerate();
+    sectors.extend(pairs.filter(|(_, (a, b))| a != b).map(|(i, _)| i));
+    sectors.sort_unstable();
+    sectors.dedup();
+}
+
+fn bring_back(sectors: &[usize], from: &[u8], live: &mut [u8]) {
+    for i in sectors {
+        let sector = SECTOR * i..SECTOR * (i + 1);
+        live[sector.clone()].copy_from_slice(&from[sector]);
     }
 }
 
 /// The clock's own time for nothing.
 pub fn clock() -> f64 {
-    median((0..2_001).map(|_| timed(|| ()).0).collect())
+    low(&mut (0..2_001).map(|_| timed(|| ()).0).collect::<Vec<f64>>())
 }
 
 fn timed<T>(call: impl FnOnce() -> T) -> (f64, T) {
@@ -82,35 +192,8 @@ fn timed<T>(call: impl FnOnce() -> T) -> (f64, T) {
     (begun.elapsed().as_nanos() as f64, answer)
 }
 
-/// The bytes that a call moves and the test that it begins with: a sync moves
-/// all sectors but the table, and one of that; a mount moves the card.
-fn inside(call: Call, bed: &Bed) -> Option<(usize, Call)> {
-    let table = SECTOR * (bed.geometry.1 as usize - 1);
-    match call {
-        Call::Sync => Some((bed.card.len() - table, Call::Fit)),
-        Call::Mount => Some((bed.card.len(), Call::Sound)),
-        _ => None,
-    }
-}
-
-/// A plain copy of so many bytes from one image to the other.
-#[inline(never)]
-fn copy(bed: &mut Bed, bytes: usize) {
-    bed.card[..bytes].copy_from_slice(&bed.work[..bytes]);
-    black_box(&mut bed.card);
-}
-
-/// The middle of a list, 0 if it is empty.
-fn median(mut list: Vec<f64>) -> f64 {
+/// What a tenth of a list is below, 0 if it is empty.
+fn low(list: &mut [f64]) -> f64 {
     list.sort_by(f64::total_cmp);
-    list.get(list.len() / 2).copied().unwrap_or(0.0)
-}
-
-/// The content of a put of so many sectors; its last byte is missing.
-pub fn content_bytes(call: Call) -> usize {
-    match call {
-        Call::Put(sectors) => (SECTOR * sectors).saturating_sub(1),
-        Call::PutAt | Call::PutAtEnd => SECTOR - 1,
-        _ => 0,
-    }
+    list.get(list.len() / 10).copied().unwrap_or(0.0)
 }
