@@ -1,2 +1,3 @@
 pub mod Tight
 pub mod TightLists
+pub mod Inner
