@@ -31,9 +31,10 @@ use Rattle.promises.specs.History.{Left, World, Call, before, stepsOf, p
 use Rattle.promises.specs.Whole.{CutsReadWhole}
 use Rattle.promises.specs.Sharp.{UnmountSharp}
 use Rattle.promises.specs.Free.{FreePromise, MountFree}
-use Rattle.promises.specs.Fewer.{AsBefore, Counts, Bounds}
+use Rattle.promises.specs.Fewer.{AsBefore, Counts, Bounds, Closer}
 use Rattle.promises.specs.Goals.{Goals}
 use Rattle.promises.specs.Field.{Since, Demand3Field}
+use Rattle.promises.specs.HostRuns.{HostHistories}
 use Rattle.promises.specs.Worries.{SyncAtTop, WornOnlyLooks, NoCountAbove, CountsUsedUp, NoneWakes}
 
 pub record Promises : Type 1 where
@@ -90,7 +91,10 @@ pub record Promises : Type 1 where
   pub asBefore : AsBefore
   pub counts : Counts
   pub bounds : Bounds
+  pub closer : Closer
   pub goals : Goals
+  -- ---- what a module runs: a history of host functions is a history of calls
+  pub hostHistories : HostHistories
   -- ---- the tester's worries, of histories from any sound card; a card just made is one
   pub everyCut : Demand3Field
   pub fromFresh : (w : World) → Reach w → Since w

@@ -26,9 +26,10 @@ use Rattle.promises.specs.Sharp.{unmount-sharp}
 use Rattle.promises.specs.FreeProved.{free-promise}
 use Rattle.promises.specs.FreeMount.{mount-free}
 use Rattle.promises.specs.FewerProved.{as-before, counts}
-use Rattle.promises.specs.BoundProved.{bounds}
+use Rattle.promises.specs.BoundProved.{bounds, closer}
 use Rattle.promises.specs.Goals.{goals}
 use Rattle.promises.specs.FieldProved.{demand-three-field, since, fits-since}
+use Rattle.promises.specs.HostStops.{host-histories}
 use Rattle.promises.specs.WorriesProved.{sync-at-top, worn-only-looks, no-count-above, counts-used-up}
 use Rattle.promises.specs.Wakes.{none-wakes}
 use Rattle.promises.specs.Promises.{Promises}
@@ -83,7 +84,9 @@ promises =
       asBefore = as-before;
       counts = counts;
       bounds = bounds;
+      closer = closer;
       goals = goals;
+      hostHistories = host-histories;
       everyCut = demand-three-field;
       fromFresh = λ w r. since r;
       syncAtTop = sync-at-top;
