@@ -20,10 +20,12 @@
  * What is taken. Every call takes buffers of any length and content, any
  * 24 bytes as a session, any name and any number, and always ends. What the
  * caller answers for is C's own: each pointer is valid for its length (for the
- * arrays: 8, 16 and 24 bytes; for a table: lines_len lines), also where the length
- * is 0, bytes need no alignment and a table that of its struct, and NO TWO LENT
+ * arrays: 8, 16 and 24 bytes; for a table: lines_len lines), and NO TWO LENT
  * BUFFERS OVERLAP where one of them is written to. Nothing is promised for a
- * buffer lent twice in one call.
+ * buffer lent twice in one call. Bytes need no alignment, a table that of its
+ * struct. NULL is taken where the length is 0 (that is tried, not proved: what
+ * is proved speaks of valid pointers); never for an array. A length may be any
+ * size_t, also above 4 GiB: it is compared and not cut down.
  *
  * A session is 24 bytes, six words of 32 bits, least byte first: state
  * (0 closed, 1 open, 2 open and worn), S, T, D, c, t. The closed session is
@@ -31,9 +33,9 @@
  * is an open session that never fits. It is no secret and may be kept
  * anywhere; a session that does not belong to the working image is refused.
  *
- * Numbers. Each function gives one of these, list's two and store_sync_count
- * with a count. A refusal (not 0) changes no byte, but that a refused mount
- * stores the closed session.
+ * Numbers. Each function gives one of these, and where it counts something, in
+ * a struct store_answer with a count. A refusal (not 0) counts 0 and changes no
+ * byte, but that a refused mount stores the closed session.
  *
  *    0  done
  *    1  geometry outside the limits, or an image of the wrong length
@@ -41,13 +43,12 @@
  *    3  mount of a sound card whose crash counts are used up (C = N)
  *    4  the session is closed
  *    5  name length or byte outside the rule (1 to 32 bytes, each 33 to 126)
+ *    6  no such file
  *    7  no entry for the name
  *    8  no run of sectors inside a page that is free in both views
  *    9  change or sync in a worn session
- *   10  list: more files than lines
+ *   10  the lent output is too short: get, or a list with more files than lines
  *   11  sector number S or more
- *
- * (6 belongs to calls that are not among these.)
  */
 #ifndef SOOQIDHAAL_H
 #define SOOQIDHAAL_H
@@ -59,6 +60,12 @@
 extern "C" {
 #endif
 
+/* The version of this header: the first number grows when what is declared here
+ * changes, the second when something is added. Both are 0 to 99. */
+#define STORE_VERSION_MAJOR 1
+#define STORE_VERSION_MINOR 0
+#define STORE_VERSION (100 * STORE_VERSION_MAJOR + STORE_VERSION_MINOR)
+
 enum {
     STORE_DONE = 0,
     STORE_BAD_GEOMETRY = 1,
@@ -66,6 +73,7 @@ enum {
     STORE_NO_COUNT_LEFT = 3,
     STORE_CLOSED = 4,
     STORE_BAD_NAME = 5,
+    STORE_NO_FILE = 6,
     STORE_NO_ENTRY = 7,
     STORE_NO_ROOM = 8,
     STORE_WORN = 9,
@@ -100,7 +108,7 @@ struct store_line {
     struct store_run run;
 };
 
-/* What a list gives, or a sync that counts: one of the numbers, and the lines
+/* What a call that counts gives: one of the numbers, and the bytes or lines
  * filled or the sectors written (0 on a refusal). */
 struct store_answer {
     uint32_t number;
@@ -116,6 +124,13 @@ uint32_t store_make(uint32_t s, uint32_t t, uint32_t d,
 /* Reads a card, which needs no session: 1, 2. With 0, out holds four words:
  * C (crash count), N (crash counts in all), files shown, free sectors. */
 uint32_t store_read(const uint8_t *card, size_t card_len, uint8_t out[16]);
+
+/* Gets a file that a card shows, which needs no session: 1, 2, 5, 6, 10. The
+ * first bytes of out are filled and counted, the later ones stay as they
+ * are. */
+struct store_answer store_read_get(const uint8_t *card, size_t card_len,
+                                   const uint8_t *name, size_t name_len,
+                                   uint8_t *out, size_t out_len);
 
 /* Mounts a card: 1, 2, 3. Sector 0 of the card gets the next crash count and
  * must have landed before anything else of the session does; then the card is
@@ -141,6 +156,18 @@ uint32_t store_put_at(const uint8_t session[24],
                       const uint8_t *content, size_t content_len,
                       uint32_t goal);
 
+/* Removes a file of the session, in the working image only: 4, 2, 9, 5, 6. */
+uint32_t store_remove(const uint8_t session[24],
+                      uint8_t *work, size_t work_len,
+                      const uint8_t *name, size_t name_len);
+
+/* Gets a file of the session: 4, 2, 5, 6, 10. The first bytes of out are filled
+ * and counted, the later ones stay as they are. */
+struct store_answer store_get(const uint8_t session[24],
+                              const uint8_t *work, size_t work_len,
+                              const uint8_t *name, size_t name_len,
+                              uint8_t *out, size_t out_len);
+
 /* Counts sectors of the working image: 4, 2. With 0, out holds two words: free
  * (clear in both views, so that a put can take them now) and waiting (the ones
  * that the next sync releases: the cut view still has them). Free, waiting, the
@@ -165,6 +192,16 @@ struct store_answer store_sync_count(uint8_t session[24],
                                      uint8_t *card, size_t card_len,
                                      uint8_t *work, size_t work_len);
 
+/* Ends a session: 4, 1, 2. Syncs unless worn, and then gives the crash count
+ * back in sector 0 of both images, unless the session is worn by then. With 0
+ * the session is closed; on a refusal its bytes stay. Counts what its sync
+ * wrote; the write of sector 0 is not counted. The table sector must have
+ * landed before sector 0 does. A session that ends without this uses one of the
+ * card's 128 * T crash counts up. */
+struct store_answer store_unmount(uint8_t session[24],
+                                  uint8_t *card, size_t card_len,
+                                  uint8_t *work, size_t work_len);
+
 /* Copies one sector of the working image to the card, at any time:
  * 4, 1, 2, 11. */
 uint32_t store_land(const uint8_t session[24], uint8_t *card, size_t card_len,
@@ -180,6 +217,24 @@ struct store_answer store_read_list(const uint8_t *card, size_t card_len,
 struct store_answer store_list(const uint8_t session[24],
                                const uint8_t *work, size_t work_len,
                                struct store_line *lines, size_t lines_len);
+
+/* For a bench that cuts the power inside a call: the call's tests, then its
+ * writes to the card as far as place k, and nothing else. Mount has two places:
+ * sector 0, and a barrier, behind which everything written has landed. Sync's
+ * are sector 0, the S - T - 1 sectors past the table in rising order, a barrier,
+ * the table sector, a barrier; a sector that does not differ is not written.
+ * Unmount's are sync's, and then sector 0. Past the last place nothing happens.
+ * The count is that of the sectors written so far. */
+uint32_t store_mount_steps(uint8_t *card, size_t card_len,
+                           const uint8_t *work, size_t work_len, uint32_t k);
+struct store_answer store_sync_steps(const uint8_t session[24],
+                                     uint8_t *card, size_t card_len,
+                                     const uint8_t *work, size_t work_len,
+                                     uint32_t k);
+struct store_answer store_unmount_steps(const uint8_t session[24],
+                                        uint8_t *card, size_t card_len,
+                                        const uint8_t *work, size_t work_len,
+                                        uint32_t k);
 
 #ifdef __cplusplus
 }

@@ -8,8 +8,7 @@
 //! does not count must still hold it. After every line but meddling both are
 //! asked for free and waiting, which must be the same, and add up with F and the
 //! sectors of the present files to S where the session fits; on a refusal the
-//! output must be as it was. Removes and unmounts, for which there is no host function,
-//! are done by the plain version, and its images are given to both sides.
+//! output must be as it was. A get's output holds rubbish beforehand as well.
 //!
 //! At a cut each sector of the card may hold any value written to it since the
 //! latest moment: a finished sync, or the mount. Such cards are read back by
@@ -26,6 +25,7 @@ mod edges;
 mod exhaustive;
 mod figures;
 mod files;
+mod gets;
 mod histories;
 mod hostile;
 mod image;

@@ -18,6 +18,9 @@
 use crate::plain::{Line, REPORT_BYTES, ROOM_BYTES, SESSION_BYTES};
 use std::mem::{align_of, offset_of, size_of};
 
+/// The version of the header that declares the same functions.
+pub const VERSION: (u32, u32) = (1, 0);
+
 /// A session as it crosses to the host functions.
 pub type SessionBytes = [u8; SESSION_BYTES];
 /// What reading a card gives: words C, N, files shown, clear bits.
@@ -30,12 +33,12 @@ pub type RoomBytes = [u8; ROOM_BYTES];
 #[derive(Clone, Copy, Debug, Default, PartialEq, Eq)]
 pub struct Goal(pub u32);
 
-/// What a list gives, or a sync that counts.
+/// What a call that counts gives.
 #[repr(C)]
 #[derive(Clone, Copy, Debug, PartialEq, Eq)]
 pub struct Answer {
     pub number: u32,
-    /// The lines filled or the sectors written, 0 on a refusal.
+    /// The bytes or lines filled or the sectors written, 0 on a refusal.
     pub count: u32,
 }
 
@@ -55,6 +58,14 @@ mod symbols {
     extern "C" {
         pub fn store_make(s: u32, t: u32, d: u32, card: *mut u8, card_len: usize) -> u32;
         pub fn store_read(card: *const u8, card_len: usize, out: *mut ReportBytes) -> u32;
+        pub fn store_read_get(
+            card: *const u8,
+            card_len: usize,
+            name: *const u8,
+            name_len: usize,
+            out: *mut u8,
+            out_len: usize,
+        ) -> Answer;
         pub fn store_mount(
             card: *mut u8,
             card_len: usize,
@@ -81,6 +92,22 @@ mod symbols {
             content_len: usize,
             goal: u32,
         ) -> u32;
+        pub fn store_remove(
+            session: *const SessionBytes,
+            work: *mut u8,
+            work_len: usize,
+            name: *const u8,
+            name_len: usize,
+        ) -> u32;
+        pub fn store_get(
+            session: *const SessionBytes,
+            work: *const u8,
+            work_len: usize,
+            name: *const u8,
+            name_len: usize,
+            out: *mut u8,
+            out_len: usize,
+        ) -> Answer;
         pub fn store_free(
             session: *const SessionBytes,
             work: *const u8,
@@ -101,6 +128,13 @@ mod symbols {
             work: *mut u8,
             work_len: usize,
         ) -> Answer;
+        pub fn store_unmount(
+            session: *mut SessionBytes,
+            card: *mut u8,
+            card_len: usize,
+            work: *mut u8,
+            work_len: usize,
+        ) -> Answer;
         pub fn store_land(
             session: *const SessionBytes,
             card: *mut u8,
@@ -109,6 +143,29 @@ mod symbols {
             work_len: usize,
             sector: u32,
         ) -> u32;
+        pub fn store_mount_steps(
+            card: *mut u8,
+            card_len: usize,
+            work: *const u8,
+            work_len: usize,
+            k: u32,
+        ) -> u32;
+        pub fn store_sync_steps(
+            session: *const SessionBytes,
+            card: *mut u8,
+            card_len: usize,
+            work: *const u8,
+            work_len: usize,
+            k: u32,
+        ) -> Answer;
+        pub fn store_unmount_steps(
+            session: *const SessionBytes,
+            card: *mut u8,
+            card_len: usize,
+            work: *const u8,
+            work_len: usize,
+            k: u32,
+        ) -> Answer;
         pub fn store_read_list(
             card: *const u8,
             card_len: usize,
@@ -141,6 +198,25 @@ pub fn make(s: u32, t: u32, d: u32, card: &mut [u8]) -> u32 {
 pub fn read(card: &[u8], out: &mut ReportBytes) -> u32 {
     // SAFETY: see above.
     unsafe { symbols::store_read(card.as_ptr(), card.len(), out) }
+}
+
+/// Fills the first bytes of the output with a file that a card shows and counts
+/// them: 1, 2, 5, 6, 10. The later bytes stay as they are, and all of them on a
+/// refusal.
+pub fn read_get(card: &[u8], name: &[u8], out: &mut [u8]) -> Answer {
+    let (out_len, out) = (out.len(), out.as_mut_ptr());
+    let (card_len, name_len) = (card.len(), name.len());
+    // SAFETY: see above.
+    unsafe {
+        symbols::store_read_get(
+            card.as_ptr(),
+            card_len,
+            name.as_ptr(),
+            name_len,
+            out,
+            out_len,
+        )
+    }
 }
 
 /// Mounts a card: 1, 2, 3. `session` takes the new session, or the closed one
@@ -195,6 +271,24 @@ pub fn put_at(
     }
 }
 
+/// Removes a file of the present view: 4, 2, 9, 5, 6.
+pub fn remove(session: &SessionBytes, work: &mut [u8], name: &[u8]) -> u32 {
+    let (work_len, work) = (work.len(), work.as_mut_ptr());
+    // SAFETY: see above.
+    unsafe { symbols::store_remove(session, work, work_len, name.as_ptr(), name.len()) }
+}
+
+/// Fills the first bytes of the output with a file of the present view and
+/// counts them: 4, 2, 5, 6, 10. The later bytes stay as they are, and all of
+/// them on a refusal.
+pub fn get(session: &SessionBytes, work: &[u8], name: &[u8], out: &mut [u8]) -> Answer {
+    let (out_len, out) = (out.len(), out.as_mut_ptr());
+    let (work_len, name_len) = (work.len(), name.len());
+    let (work, name) = (work.as_ptr(), name.as_ptr());
+    // SAFETY: see above.
+    unsafe { symbols::store_get(session, work, work_len, name, name_len, out, out_len) }
+}
+
 /// Counts the sectors free in both views, and those that the next sync
 /// releases: 4, 2. `out` takes both, and stays as it is on a refusal.
 pub fn free(session: &SessionBytes, work: &[u8], out: &mut RoomBytes) -> u32 {
@@ -219,11 +313,46 @@ pub fn sync_count(session: &mut SessionBytes, card: &mut [u8], work: &mut [u8]) 
     unsafe { symbols::store_sync_count(session, card, card_len, work, work_len) }
 }
 
+/// Syncs unless worn, gives the crash count back unless worn by then, closes the
+/// session and counts the sectors that its sync wrote: 4, 1, 2.
+pub fn unmount(session: &mut SessionBytes, card: &mut [u8], work: &mut [u8]) -> Answer {
+    let (card_len, work_len) = (card.len(), work.len());
+    let (card, work) = (card.as_mut_ptr(), work.as_mut_ptr());
+    // SAFETY: see above.
+    unsafe { symbols::store_unmount(session, card, card_len, work, work_len) }
+}
+
 /// Copies one sector of the working image to the card: 4, 1, 2, 11.
 pub fn land(session: &SessionBytes, card: &mut [u8], work: &[u8], sector: u32) -> u32 {
     let (card_len, card) = (card.len(), card.as_mut_ptr());
     // SAFETY: see above.
     unsafe { symbols::store_land(session, card, card_len, work.as_ptr(), work.len(), sector) }
+}
+
+// A call's tests and then its writes as far as place k, for cuts inside it: no
+// buffer but the card changes. Mount has two places: sector 0, and a barrier.
+// Sync's are sector 0, the sectors past the table in rising order, a barrier,
+// the table sector, a barrier; unmount's are these and then sector 0.
+
+/// A mount as far as place k: 1, 2, 3.
+pub fn mount_steps(card: &mut [u8], work: &[u8], k: u32) -> u32 {
+    let (card_len, card) = (card.len(), card.as_mut_ptr());
+    // SAFETY: see above.
+    unsafe { symbols::store_mount_steps(card, card_len, work.as_ptr(), work.len(), k) }
+}
+
+/// A sync as far as place k, with the sectors written: 4, 1, 2, 9.
+pub fn sync_steps(session: &SessionBytes, card: &mut [u8], work: &[u8], k: u32) -> Answer {
+    let (card_len, card) = (card.len(), card.as_mut_ptr());
+    // SAFETY: see above.
+    unsafe { symbols::store_sync_steps(session, card, card_len, work.as_ptr(), work.len(), k) }
+}
+
+/// An unmount as far as place k, with the sectors its sync wrote: 4, 1, 2.
+pub fn unmount_steps(session: &SessionBytes, card: &mut [u8], work: &[u8], k: u32) -> Answer {
+    let (card_len, card) = (card.len(), card.as_mut_ptr());
+    // SAFETY: see above.
+    unsafe { symbols::store_unmount_steps(session, card, card_len, work.as_ptr(), work.len(), k) }
 }
 
 /// Fills the first lines with the files that a card shows, in entry order, and

@@ -5,6 +5,8 @@
 //! * [`plain`] holds the calls of the second version.
 //! * [`stored`] holds the stored cards and the report expected for each.
 //! * [`host`] holds the host functions of the proved store and list's two.
+//! * [`module`] has them with a session that holds its images, and the table's
+//!   numbers as an enum.
 //! * [`store`] is what both have in common.
 //! * [`cutbench`] runs histories with cuts through both and compares.
 //! * [`measure`] times them and looks at their stack.
@@ -16,6 +18,7 @@ pub mod dice;
 #[allow(unsafe_code)]
 pub mod host;
 pub mod measure;
+pub mod module;
 pub mod plain;
 #[allow(unsafe_code)]
 pub mod stack;

@@ -2,11 +2,7 @@
 //! table of lines, so that two stores can be run beside each other.
 
 use crate::host::{self, Answer, Goal, ReportBytes, RoomBytes, SessionBytes};
-use crate::plain::steps::{self, Step};
-use crate::plain::{self, Line, Session};
-
-/// The writes of a call, or its refusal.
-pub type Steps = Result<Vec<Step>, u32>;
+use crate::plain::{self, steps, Line, Session};
 
 /// A store as a host sees it. The numbers are those of the paper's table, and
 /// a session is its six words.
@@ -15,6 +11,8 @@ pub trait Store: Sync {
     fn make(&self, s: u32, t: u32, d: u32, card: &mut [u8]) -> u32;
     /// Reads a card; `out` stays on a refusal.
     fn read(&self, card: &[u8], out: &mut ReportBytes) -> u32;
+    /// Fills the first bytes with a file that a card shows and counts them.
+    fn read_get(&self, card: &[u8], name: &[u8], out: &mut [u8]) -> Answer;
     /// Mounts a card; a refusal gives the closed session.
     fn mount(&self, card: &mut [u8], work: &mut [u8], session: &mut SessionBytes) -> u32;
     /// Stores a whole file.
@@ -28,17 +26,23 @@ pub trait Store: Sync {
         content: &[u8],
         goal: Goal,
     ) -> u32;
+    /// Removes a file.
+    fn remove(&self, session: &SessionBytes, work: &mut [u8], name: &[u8]) -> u32;
+    /// Fills the first bytes with a session's present file and counts them.
+    fn get(&self, session: &SessionBytes, work: &[u8], name: &[u8], out: &mut [u8]) -> Answer;
     /// Counts the free sectors and the waiting ones; `out` stays on a refusal.
     fn free(&self, session: &SessionBytes, work: &[u8], out: &mut RoomBytes) -> u32;
     /// Brings the working image to the card.
     fn sync(&self, session: &mut SessionBytes, card: &mut [u8], work: &mut [u8]) -> u32;
-    /// The same, with the number of sectors written: those of its list.
+    /// The same, with the number of sectors written: those of its steps.
     fn sync_count(&self, session: &mut SessionBytes, card: &mut [u8], work: &mut [u8]) -> Answer {
-        let list = self.sync_steps(session, card, work).unwrap_or_default();
+        let Answer { count, .. } = self.sync_steps(session, &mut card.to_vec(), work, u32::MAX);
         let number = self.sync(session, card, work);
-        let count = steps::counted(&list);
         Answer { number, count }
     }
+    /// Syncs, gives the crash count back and closes the session; counts the
+    /// sectors that its sync wrote.
+    fn unmount(&self, session: &mut SessionBytes, card: &mut [u8], work: &mut [u8]) -> Answer;
     /// Copies one sector to the card.
     fn land(&self, session: &SessionBytes, card: &mut [u8], work: &[u8], sector: u32) -> u32;
 
@@ -47,12 +51,13 @@ pub trait Store: Sync {
     /// Fills the first lines with a session's present files and counts them.
     fn list(&self, session: &SessionBytes, work: &[u8], lines: &mut [Line]) -> Answer;
 
-    /// The card writes of a sync in order, for cuts inside it. A call cannot
-    /// be stopped half way from outside, so the plain version's list stands
-    /// for every store that does not give its own.
-    fn sync_steps(&self, session: &SessionBytes, card: &[u8], work: &[u8]) -> Steps {
-        steps::of_sync(&Session::decode(session), card, work)
-    }
+    /// A mount as far as place k.
+    fn mount_steps(&self, card: &mut [u8], work: &[u8], k: u32) -> u32;
+    /// A sync as far as place k, with the sectors written by then.
+    fn sync_steps(&self, session: &SessionBytes, card: &mut [u8], work: &[u8], k: u32) -> Answer;
+    /// An unmount as far as place k, with the sectors its sync wrote by then.
+    fn unmount_steps(&self, session: &SessionBytes, card: &mut [u8], work: &[u8], k: u32)
+        -> Answer;
 }
 
 /// The proved store, through its host functions.
@@ -65,6 +70,10 @@ impl Store for Proved {
 
     fn read(&self, card: &[u8], out: &mut ReportBytes) -> u32 {
         host::read(card, out)
+    }
+
+    fn read_get(&self, card: &[u8], name: &[u8], out: &mut [u8]) -> Answer {
+        host::read_get(card, name, out)
     }
 
     fn mount(&self, card: &mut [u8], work: &mut [u8], session: &mut SessionBytes) -> u32 {
@@ -86,6 +95,14 @@ impl Store for Proved {
         host::put_at(session, work, name, content, goal)
     }
 
+    fn remove(&self, session: &SessionBytes, work: &mut [u8], name: &[u8]) -> u32 {
+        host::remove(session, work, name)
+    }
+
+    fn get(&self, session: &SessionBytes, work: &[u8], name: &[u8], out: &mut [u8]) -> Answer {
+        host::get(session, work, name, out)
+    }
+
     fn free(&self, session: &SessionBytes, work: &[u8], out: &mut RoomBytes) -> u32 {
         host::free(session, work, out)
     }
@@ -98,6 +115,10 @@ impl Store for Proved {
         host::sync_count(session, card, work)
     }
 
+    fn unmount(&self, session: &mut SessionBytes, card: &mut [u8], work: &mut [u8]) -> Answer {
+        host::unmount(session, card, work)
+    }
+
     fn land(&self, session: &SessionBytes, card: &mut [u8], work: &[u8], sector: u32) -> u32 {
         host::land(session, card, work, sector)
     }
@@ -108,6 +129,24 @@ impl Store for Proved {
 
     fn list(&self, session: &SessionBytes, work: &[u8], lines: &mut [Line]) -> Answer {
         host::list(session, work, lines)
+    }
+
+    fn mount_steps(&self, card: &mut [u8], work: &[u8], k: u32) -> u32 {
+        host::mount_steps(card, work, k)
+    }
+
+    fn sync_steps(&self, session: &SessionBytes, card: &mut [u8], work: &[u8], k: u32) -> Answer {
+        host::sync_steps(session, card, work, k)
+    }
+
+    fn unmount_steps(
+        &self,
+        session: &SessionBytes,
+        card: &mut [u8],
+        work: &[u8],
+        k: u32,
+    ) -> Answer {
+        host::unmount_steps(session, card, work, k)
     }
 }
 
@@ -127,6 +166,10 @@ impl Store for Plain {
             }
             Err(refusal) => refusal,
         }
+    }
+
+    fn read_get(&self, card: &[u8], name: &[u8], out: &mut [u8]) -> Answer {
+        answer(plain::read_get(card, name, out))
     }
 
     fn mount(&self, card: &mut [u8], work: &mut [u8], session: &mut SessionBytes) -> u32 {
@@ -150,6 +193,14 @@ impl Store for Plain {
         plain::put_at(&Session::decode(session), work, name, content, goal.0)
     }
 
+    fn remove(&self, session: &SessionBytes, work: &mut [u8], name: &[u8]) -> u32 {
+        plain::remove(&Session::decode(session), work, name)
+    }
+
+    fn get(&self, session: &SessionBytes, work: &[u8], name: &[u8], out: &mut [u8]) -> Answer {
+        answer(plain::get(&Session::decode(session), work, name, out))
+    }
+
     fn free(&self, session: &SessionBytes, work: &[u8], out: &mut RoomBytes) -> u32 {
         match plain::free(&Session::decode(session), work) {
             Ok(room) => {
@@ -169,6 +220,15 @@ impl Store for Plain {
         number
     }
 
+    fn unmount(&self, session: &mut SessionBytes, card: &mut [u8], work: &mut [u8]) -> Answer {
+        let mut decoded = Session::decode(session);
+        let counted = plain::unmount_count(&mut decoded, card, work);
+        if counted.is_ok() {
+            *session = decoded.encode();
+        }
+        answer(counted)
+    }
+
     fn land(&self, session: &SessionBytes, card: &mut [u8], work: &[u8], sector: u32) -> u32 {
         plain::land(&Session::decode(session), card, work, sector)
     }
@@ -179,6 +239,29 @@ impl Store for Plain {
 
     fn list(&self, session: &SessionBytes, work: &[u8], lines: &mut [Line]) -> Answer {
         answer(plain::list(&Session::decode(session), work, lines))
+    }
+
+    fn mount_steps(&self, card: &mut [u8], work: &[u8], k: u32) -> u32 {
+        steps::mount_first(card, work, k)
+    }
+
+    fn sync_steps(&self, session: &SessionBytes, card: &mut [u8], work: &[u8], k: u32) -> Answer {
+        answer(steps::sync_first(&Session::decode(session), card, work, k))
+    }
+
+    fn unmount_steps(
+        &self,
+        session: &SessionBytes,
+        card: &mut [u8],
+        work: &[u8],
+        k: u32,
+    ) -> Answer {
+        answer(steps::unmount_first(
+            &Session::decode(session),
+            card,
+            work,
+            k,
+        ))
     }
 }
 

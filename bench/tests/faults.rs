@@ -119,6 +119,29 @@ fn comparing_finds_every_wrong_byte_and_number() {
     }
 }
 
+/// Beside themselves: the cuts, the free figures, the outputs full of rubbish and
+/// the bound on the sectors written tell.
+#[test]
+fn wrong_removes_gets_and_unmounts_are_found() {
+    for (wrong, what) in [
+        (Wrong::RemovesOld, "a session in order is refused with 2"),
+        (
+            Wrong::RemoveKeepsBits,
+            "a session in order is refused with 2",
+        ),
+        (Wrong::GetsPast, "get touches another byte"),
+        (Wrong::GetsShort, "get into"),
+        (Wrong::ReadGetsPast, "get touches another byte"),
+        (Wrong::UnmountsOnly, "a card "),
+        (Wrong::CountsSector0, "writes "),
+        (Wrong::StaysOpen, "unmount leaves the session open"),
+    ] {
+        let small = found(Pair(&wrong, &wrong));
+        assert!(small.what.starts_with(what), "{wrong:?}: {}", small.what);
+        found(Pair(&wrong, &Plain));
+    }
+}
+
 /// Beside themselves where the number tells, which no goal that is taken may
 /// change, or a cut; and all of them beside the plain version.
 #[test]

@@ -1,19 +1,20 @@
 //! The bench sheet, line by line: numbers, counts, and the bytes and places
-//! named. S = 10, T = 1, D = 1 (data 6 to 9) unless said.
+//! named. S = 10, T = 1, D = 1 (data 6 to 9) unless said. Each line is run on the
+//! plain version and on the proved store.
 
 mod common;
 
-use bench::plain::{self, set_word, steps, word, Session, TOP};
-use common::{content, fresh_card, shown, shown_content, Host};
+use bench::plain::{self, set_word, word, Session, TOP};
+use common::{content, fresh_card, make, read, read_get, shown, shown_content, Host};
 
 #[test]
 fn six_sectors_are_refused_and_seven_made() {
     let mut card = vec![0xEE; 6 * 512];
-    assert_eq!(plain::make(6, 1, 1, &mut card), 1);
+    assert_eq!(make(6, 1, 1, &mut card), 1);
     assert!(card.iter().all(|b| *b == 0xEE));
     let mut card = vec![0xEE; 7 * 512];
-    assert_eq!(plain::make(7, 1, 1, &mut card), 0);
-    assert_eq!(plain::read(&card).map(|r| r.free), Ok(1));
+    assert_eq!(make(7, 1, 1, &mut card), 0);
+    assert_eq!(read(&card).map(|r| r.free), Ok(1));
 }
 
 #[test]
@@ -170,7 +171,7 @@ fn the_last_transaction_count_is_used_once() {
     assert_eq!(host.files(), ["a 513 6 2"]);
 
     set_word(&mut card, 1, 0, TOP);
-    assert_eq!(plain::read(&card), Err(2));
+    assert_eq!(read(&card), Err(2));
     assert_eq!(Host::try_mount(card).0, 2);
 }
 
@@ -192,7 +193,7 @@ fn a_stamp_just_past_word_c_is_refused_at_c_and_dead_below() {
         set_word(&mut card, 5, 1, 8);
         set_word(&mut card, 2, 0, cc);
         set_word(&mut card, 2, 1, 8);
-        assert_eq!(plain::read(&card).map(|r| r.files), expected);
+        assert_eq!(read(&card).map(|r| r.files), expected);
         if expected.is_ok() {
             assert_eq!(shown(&card), ["a 513 6 2"]);
             assert_eq!(shown_content(&card, "a"), Ok(content(513)));
@@ -209,20 +210,40 @@ fn a_cut_in_sync_shows_the_earlier_files_until_the_table_sector() {
     host.store("a", 700);
     assert_eq!(host.remove("gone"), 0);
     host.store("b", 0);
-    let list = steps::of_sync(&host.session, &host.card, &host.work).expect("sync is taken");
-    assert_eq!(steps::writes(&list), 6);
-    for k in 0..=6 {
-        let mut card = host.card.clone();
-        assert_eq!(steps::sync_cut(&host.session, &mut card, &host.work, k), 0);
-        let (files, text) = if k < 6 {
-            (["a 600 6 2", "gone 0 0 0"], content(600))
-        } else {
-            (["a 700 8 2", "b 0 0 0"], content(700))
-        };
-        assert_eq!(shown(&card), files, "after {k} writes");
-        assert_eq!(shown_content(&card, "a"), Ok(text), "after {k} writes");
-        assert_eq!(Host::mount(card).files(), files, "after {k} writes");
+    // Nine places come before the barrier: sector 0 and sectors 2 to 9. Sector 0
+    // and three of the data do not differ.
+    for (k, writes) in [
+        (0, 0),
+        (1, 0),
+        (2, 1),
+        (4, 2),
+        (5, 3),
+        (7, 3),
+        (8, 4),
+        (9, 5),
+        (10, 5),
+    ] {
+        let (count, card) = host.sync_steps(k).expect("sync is taken");
+        assert_eq!(count, writes, "at place {k}");
+        earlier_or_new(&card, false);
     }
+    for k in [11, 12, u32::MAX] {
+        let (count, card) = host.sync_steps(k).expect("sync is taken");
+        assert_eq!(count, 6);
+        earlier_or_new(&card, true);
+    }
+}
+
+/// The files of before, or the new ones, and a mount takes them.
+fn earlier_or_new(card: &[u8], new: bool) {
+    let (files, text) = if new {
+        (["a 700 8 2", "b 0 0 0"], content(700))
+    } else {
+        (["a 600 6 2", "gone 0 0 0"], content(600))
+    };
+    assert_eq!(shown(card), files);
+    assert_eq!(shown_content(card, "a"), Ok(text));
+    assert_eq!(Host::mount(card.to_vec()).files(), files);
 }
 
 #[test]
@@ -232,15 +253,14 @@ fn get_needs_a_buffer_of_the_files_size() {
     assert_eq!(host.put("a", &text), 0);
     assert_eq!(host.get("a", 777), Ok(text.clone()));
     assert_eq!(host.get("a", 800), Ok(text.clone()));
-    let mut short = vec![0xEE; 776];
-    let answer = plain::get(&host.session, &host.work, b"a", &mut short);
-    assert_eq!(answer, Err(10));
-    assert!(short.iter().all(|b| *b == 0xEE));
+    assert_eq!(host.get("a", 776), Err(10));
     assert_eq!(host.unmount(), 0);
+    let mut short = vec![0xEE; 776];
     let mut exact = vec![0; 777];
-    assert_eq!(plain::read_get(&host.card, b"a", &mut exact), Ok(777));
+    assert_eq!(read_get(&host.card, b"a", &mut exact), Ok(777));
     assert_eq!(exact, text);
-    assert_eq!(plain::read_get(&host.card, b"a", &mut short), Err(10));
+    assert_eq!(read_get(&host.card, b"a", &mut short), Err(10));
+    assert!(short.iter().all(|b| *b == 0xEE));
 }
 
 #[test]
@@ -256,38 +276,22 @@ fn the_reading_programs_example() {
 /// and the table sector.
 #[test]
 fn sync_and_unmount_count_the_sectors_they_write() {
-    let counted = |host: &mut Host| {
-        let Host {
-            card,
-            work,
-            session,
-        } = host;
-        plain::sync_count(session, card, work)
-    };
-    let closed = |host: &mut Host| {
-        let Host {
-            card,
-            work,
-            session,
-        } = host;
-        plain::unmount_count(session, card, work)
-    };
     let mut host = Host::small();
-    assert_eq!(counted(&mut host), Ok(1));
+    assert_eq!(host.sync_count(), Ok(1));
     host.store("a", 1_024);
-    assert_eq!(counted(&mut host), Ok(6));
+    assert_eq!(host.sync_count(), Ok(6));
     host.store("a", 1_000);
-    assert_eq!(counted(&mut host), Ok(6));
-    assert_eq!(counted(&mut host), Ok(1));
+    assert_eq!(host.sync_count(), Ok(6));
+    assert_eq!(host.sync_count(), Ok(1));
     host.store("b", 0);
-    assert_eq!(counted(&mut host), Ok(2));
+    assert_eq!(host.sync_count(), Ok(2));
     assert_eq!(host.remove("a"), 0);
     let mut landed = host.clone();
-    assert_eq!(closed(&mut host), Ok(4));
-    assert_eq!(closed(&mut host), Err(4));
+    assert_eq!(host.unmount_count(), Ok(4));
+    assert_eq!(host.unmount_count(), Err(4));
     // What was landed before is not written again.
     assert!([2, 5].iter().all(|sector| landed.land(*sector) == 0));
-    assert_eq!(closed(&mut landed), Ok(2));
+    assert_eq!(landed.unmount_count(), Ok(2));
     assert_eq!(landed.card, host.card);
 
     // It becomes worn, and then writes nothing.
@@ -295,7 +299,7 @@ fn sync_and_unmount_count_the_sectors_they_write() {
     set_word(&mut card, 1, 0, TOP - 1);
     let mut host = Host::mount(card);
     host.store("a", 513);
-    assert_eq!(counted(&mut host), Ok(6));
-    assert_eq!(counted(&mut host), Err(9));
-    assert_eq!(closed(&mut host), Ok(0));
+    assert_eq!(host.sync_count(), Ok(6));
+    assert_eq!(host.sync_count(), Err(9));
+    assert_eq!(host.unmount_count(), Ok(0));
 }

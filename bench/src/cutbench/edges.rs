@@ -19,9 +19,9 @@ pub fn all() -> Vec<Vec<Op>> {
 
 /// A session of some calls and cuts that ends in an unmount.
 const SESSION: &str = "read; list 0; read-list 0; mount; list 0; put a 600 1; list 0; list 1;
-    try 1; land 1; sync; try 2; put b 0 2; land 0; try 3; sync; put a 700 3; list 2; try 4;
+    get a; get b; read-get a; try 1; land 1; sync; try 2; put b 0 2; land 0; try 3; sync; put a 700 3; list 2; try 4;
     cut-in sync 1000 4; mount; remove a; list 1; put c 1 5; list 2; try 5; sync; sync; put d 5 6;
-    list 3; unmount; list 3; read-list 2; read-list 3; read-list 4; try 6; read; mount;
+    list 3; get b; unmount; get b; read-get b; read-get c; list 3; read-list 2; read-list 3; read-list 4; try 6; read; mount;
     put e 513 7; cut 7; read; mount; unmount; read";
 
 /// Geometries just inside and just outside the limits.

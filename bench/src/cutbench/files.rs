@@ -10,13 +10,8 @@ pub type Files = BTreeMap<Vec<u8>, Vec<u8>>;
 pub fn files_of(card: &[u8]) -> Result<Files, u32> {
     let mut lines = [Line::default(); 256];
     let count = plain::read_list(card, &mut lines)? as usize;
-    with_contents(card, &lines[..count])
-}
-
-/// The files of a list of a card, through the plain version's get.
-pub fn with_contents(card: &[u8], lines: &[Line]) -> Result<Files, u32> {
     let mut files = Files::new();
-    for line in lines {
+    for line in &lines[..count] {
         let mut content = vec![0; line.bytes as usize];
         plain::read_get(card, line.used_name(), &mut content)?;
         files.insert(line.used_name().to_vec(), content);

@@ -41,6 +41,9 @@ pub fn random(dice: &mut Dice, length: usize) -> Vec<Op> {
         if dice.one_in(5) {
             list.push(lines(dice));
         }
+        if dice.one_in(8) {
+            list.push(get(dice));
+        }
     }
     list
 }
@@ -52,6 +55,15 @@ fn lines(dice: &mut Dice) -> Op {
         Op::ReadList(length)
     } else {
         Op::List(length)
+    }
+}
+
+fn get(dice: &mut Dice) -> Op {
+    let name = name(dice);
+    if dice.one_in(3) {
+        Op::ReadGet(name)
+    } else {
+        Op::Get(name)
     }
 }
 

@@ -162,7 +162,7 @@ fn length(dice: &mut Dice) -> usize {
 }
 
 fn call(dice: &mut Dice) -> Op {
-    match dice.below(19) {
+    match dice.below(25) {
         0 => Op::Make(word(dice), word(dice), word(dice)),
         1 => Op::Make(10, 1 + dice.below(2) as u32, 1),
         2..=3 => Op::Read,
@@ -176,7 +176,11 @@ fn call(dice: &mut Dice) -> Op {
         13 => Op::Land(word(dice)),
         14..=15 => Op::Land(dice.below(11) as u32),
         16..=17 => Op::List(lines(dice)),
-        _ => Op::ReadList(lines(dice)),
+        18 => Op::ReadList(lines(dice)),
+        19..=20 => Op::Get(name(dice)),
+        21 => Op::ReadGet(name(dice)),
+        22..=23 => Op::Remove(name(dice)),
+        _ => Op::Unmount,
     }
 }
 
@@ -185,12 +189,17 @@ fn lines(dice: &mut Dice) -> usize {
     *dice.one_of(&[0, 0, 1, 1, 2, 2, 3, 3, 4, 4, 5, 6, 7, 255, 256, 257])
 }
 
-fn put(dice: &mut Dice) -> Op {
+fn name(dice: &mut Dice) -> Vec<u8> {
     let length = *dice.one_of(&[0, 1, 1, 1, 1, 1, 2, 4, 31, 32, 33, 100]);
     let byte = *dice.one_of(&[b'a', b'a', b'a', b'b', b'c', b'!', b'~', 32, 127, 0, 255]);
+    vec![byte; length]
+}
+
+fn put(dice: &mut Dice) -> Op {
+    let name = name(dice);
     let bytes = *dice.one_of(&[0, 1, 511, 512, 513, 1_024, 1_025, 2_048, 5_000]);
     Op::Put {
-        name: vec![byte; length],
+        name,
         bytes,
         seed: dice.roll() % 1_000,
     }

@@ -46,9 +46,11 @@ pub enum Op {
     List(usize),
     /// Reading's list into a table of so many lines.
     ReadList(usize),
-    /// By the plain version, for both sides.
+    /// A get into outputs that are too short, just long enough and longer.
+    Get(Vec<u8>),
+    /// Reading's get in the same way.
+    ReadGet(Vec<u8>),
     Remove(Vec<u8>),
-    /// By the plain version, for both sides.
     Unmount,
     /// Looks at some card that a cut would leave; the history goes on.
     Try(u64),
@@ -62,7 +64,7 @@ pub enum Op {
     AllIn(Cuttable, u64),
     /// A cut: the session ends with some card that it can leave.
     Cut(u64),
-    /// A cut inside a call, after so many of its steps.
+    /// A cut inside a call, after so many of its places.
     CutIn(Cuttable, usize, u64),
     /// The images are those of a stored card.
     Stored(String),
@@ -134,6 +136,8 @@ impl fmt::Display for Op {
             Op::Free => write!(f, "free"),
             Op::List(lines) => write!(f, "list {lines}"),
             Op::ReadList(lines) => write!(f, "read-list {lines}"),
+            Op::Get(name) => write!(f, "get {}", escaped(name)),
+            Op::ReadGet(name) => write!(f, "read-get {}", escaped(name)),
             Op::Remove(name) => write!(f, "remove {}", escaped(name)),
             Op::Unmount => write!(f, "unmount"),
             Op::Try(seed) => write!(f, "try {seed}"),

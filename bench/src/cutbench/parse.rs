@@ -43,6 +43,8 @@ fn op(line: &str) -> Option<Op> {
         "free" => Op::Free,
         "list" => Op::List(number(w)?),
         "read-list" => Op::ReadList(number(w)?),
+        "get" => Op::Get(name(w)?),
+        "read-get" => Op::ReadGet(name(w)?),
         "remove" => Op::Remove(name(w)?),
         "unmount" => Op::Unmount,
         "try" => Op::Try(number(w)?),

@@ -15,7 +15,7 @@ pub struct Tally {
     /// Cards read back and compared with the files that they must show.
     pub cards: u64,
     /// How often each call gave each number.
-    pub given: [[u64; 12]; 10],
+    pub given: [[u64; 12]; 14],
     /// The first call since this was last cleared, and its number.
     pub first: Option<(Call, u32)>,
 }
@@ -28,25 +28,33 @@ pub enum Call {
     Mount,
     Put,
     PutAt,
+    Remove,
+    Get,
     Free,
     Sync,
     Land,
+    Unmount,
     List,
     ReadList,
+    ReadGet,
 }
 
 /// The calls and their names, with the numbers that the paper lets each give.
-const NUMBERS: [(Call, &str, &[usize]); 10] = [
+const NUMBERS: [(Call, &str, &[usize]); 14] = [
     (Call::Make, "make", &[0, 1]),
     (Call::Read, "read", &[0, 1, 2]),
     (Call::Mount, "mount", &[0, 1, 2, 3]),
     (Call::Put, "put", &[0, 2, 4, 5, 7, 8, 9]),
     (Call::PutAt, "put-at", &[0, 2, 4, 5, 7, 8, 9, 11]),
+    (Call::Remove, "remove", &[0, 2, 4, 5, 6, 9]),
+    (Call::Get, "get", &[0, 2, 4, 5, 6, 10]),
     (Call::Free, "free", &[0, 2, 4]),
     (Call::Sync, "sync", &[0, 1, 2, 4, 9]),
     (Call::Land, "land", &[0, 1, 2, 4, 11]),
+    (Call::Unmount, "unmount", &[0, 1, 2, 4]),
     (Call::List, "list", &[0, 2, 4, 10]),
     (Call::ReadList, "read-list", &[0, 1, 2, 10]),
+    (Call::ReadGet, "read-get", &[0, 1, 2, 5, 6, 10]),
 ];
 
 impl Call {

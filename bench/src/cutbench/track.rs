@@ -6,9 +6,9 @@ use super::image::Image;
 use super::op::Cuttable;
 use super::summary::Call;
 use super::world::{Outcome, World};
-use crate::host::Goal;
-use crate::plain::steps::{counted, Step};
-use crate::plain::{self, Session, DONE, NO_ROOM, NO_SECTOR, PAGE_SECTORS, SECTOR};
+use crate::host::{Answer, Goal};
+use crate::plain::{Session, DONE, NO_ROOM, NO_SECTOR, PAGE_SECTORS, SECTOR};
+use std::ops::RangeInclusive;
 
 /// What is known of a history.
 pub struct Track {
@@ -34,18 +34,13 @@ impl Track {
         }
     }
 
-    /// A sync or an unmount with these steps writes one sector if nothing was
-    /// changed, and else at most the changes and P + 2.
-    fn must_bound(&self, list: &[Step], s: u32) -> Outcome {
-        let count = counted(list) as usize;
-        let most = match self.changes {
+    /// The most sectors that a sync or an unmount of a card of S sectors may
+    /// write: one if nothing was changed, and else the changes and P + 2.
+    fn most(&self, s: u32) -> usize {
+        match self.changes {
             0 => 1,
             changes => changes + s.div_ceil(PAGE_SECTORS) as usize + 2,
-        };
-        if (1..=most).contains(&count) {
-            return Ok(());
         }
-        Err(format!("sync writes {count} sectors, not 1 to {most}"))
     }
 }
 
@@ -97,6 +92,7 @@ impl World<'_> {
             track.present.insert(name.to_vec(), content.to_vec());
             track.changes += content.len().div_ceil(SECTOR) + 1;
             track.choices.all_written(self.sides[0].work.bytes());
+            self.get_into(name, content.len())?;
         }
         if number == NO_ROOM && content.len() <= SECTOR {
             return match self.free()? {
@@ -133,12 +129,10 @@ impl World<'_> {
         Ok(())
     }
 
-    /// There is no host function for this: the plain version changes one
-    /// side, and the other takes over its images.
     pub(super) fn remove(&mut self, name: &[u8]) -> Outcome {
-        let session = self.session();
-        let number = plain::remove(&session, self.sides[1].work.bytes_mut(), name);
-        self.take_over();
+        let number = self.call(Call::Remove, |store, side| {
+            store.remove(&side.session, side.work.bytes_mut(), name)
+        })?;
         if let Some(track) = self.track.as_mut().filter(|_| number == DONE) {
             track.choices.all_written(self.sides[0].work.bytes());
             track.changes += 1;
@@ -161,7 +155,7 @@ impl World<'_> {
     }
 
     pub(super) fn sync(&mut self) -> Outcome {
-        self.bound(Cuttable::Sync)?;
+        let bounds = self.bounds();
         let mut answers = Vec::new();
         let mut counted = self.sides[0].clone();
         let number = self.call(Call::Sync, |store, side| {
@@ -180,6 +174,7 @@ impl World<'_> {
         if let Some(difference) = counted.differs(&self.sides[0]) {
             return Err(format!("sync that counts: {difference}"));
         }
+        within(answers[0], bounds)?;
         match self.track.take() {
             Some(track) if number == DONE => self.with_card(|world, card| {
                 world.look(card, &[&track.present])?;
@@ -193,38 +188,51 @@ impl World<'_> {
         }
     }
 
-    /// The bound on the writes of a sync or an unmount from here, where nothing
+    /// How many sectors a sync or an unmount from here may write, where nothing
     /// but calls changed the card.
-    fn bound(&self, call: Cuttable) -> Outcome {
+    fn bounds(&self) -> RangeInclusive<usize> {
         match (&self.track, self.session()) {
-            (Some(track), Session::Open { s, worn: false, .. }) => {
-                let list = self.steps_of(call);
-                list.map_or(Ok(()), |list| track.must_bound(&list, s))
-            }
-            _ => Ok(()),
+            (Some(track), Session::Open { s, worn: false, .. }) => 1..=track.most(s),
+            (Some(_), _) => 0..=0,
+            (None, _) => 0..=usize::MAX,
         }
     }
 
-    /// By the plain version, as remove is.
     pub(super) fn unmount(&mut self) -> Outcome {
-        self.bound(Cuttable::Unmount)?;
-        let list = self.steps_of(Cuttable::Unmount);
-        let mut session = self.session();
-        let side = &mut self.sides[1];
-        let number = plain::unmount(&mut session, side.card.bytes_mut(), side.work.bytes_mut());
-        if number == DONE {
-            side.session = session.encode();
+        let list = self.steps_of(Cuttable::Unmount, u32::MAX)?;
+        let bounds = self.bounds();
+        let mut answers = Vec::new();
+        let number = self.call(Call::Unmount, |store, side| {
+            let (card, work) = (side.card.bytes_mut(), side.work.bytes_mut());
+            answers.push(store.unmount(&mut side.session, card, work));
+            answers[answers.len() - 1].number
+        })?;
+        if answers[0] != answers[1] {
+            return Err(format!("unmount counts {answers:?}"));
         }
-        self.take_over();
-        if let (Some(track), Ok(list)) = (self.track.as_mut(), list) {
+        within(answers[0], bounds)?;
+        if number == DONE && self.sides[0].session != Session::Closed.encode() {
+            return Err("unmount leaves the session open".into());
+        }
+        if let Some(track) = self.track.as_mut().filter(|_| number == DONE) {
             list.iter().for_each(|step| track.choices.step(step));
             track.shown = track.present.clone();
         }
         Ok(())
     }
+}
 
-    fn take_over(&mut self) {
-        let [one, other] = &mut self.sides;
-        one.copy_from(other);
+/// A call that gives 0 counts its writes within the bounds, and a refusal none.
+fn within(answer: Answer, bounds: RangeInclusive<usize>) -> Outcome {
+    let Answer { number, count } = answer;
+    let right = match number {
+        DONE => bounds.contains(&(count as usize)),
+        _ => count == 0,
+    };
+    if right {
+        return Ok(());
     }
+    Err(format!(
+        "writes {count} sectors, not {bounds:?}, and gives {number}"
+    ))
 }

@@ -1,6 +1,6 @@
 //! The two stores with their images, and how a line of a history is run.
 
-use super::files::{sectors, told, with_contents, Files};
+use super::files::{sectors, told, Files};
 use super::image::{Image, Lent, Side};
 use super::op::{Op, Which};
 use super::summary::{Call, Tally};
@@ -80,6 +80,8 @@ impl<'a> World<'a> {
             Op::Free => Ok(()),
             Op::List(lines) => self.list(*lines),
             Op::ReadList(lines) => self.list_card(*lines),
+            Op::Get(name) => self.get(name),
+            Op::ReadGet(name) => self.get_card(name),
             Op::Remove(name) => self.remove(name),
             Op::Unmount => self.unmount(),
             Op::Try(seed) => self.try_cut(*seed),
@@ -195,7 +197,7 @@ impl<'a> World<'a> {
         if refusal != plain::DONE {
             return Err(refused(refusal));
         }
-        let files = with_contents(card, &lines).map_err(refused)?;
+        let files = self.contents(card, &lines)?;
         let [s, t, d] = [1, 2, 3].map(|i| word(card, 0, i));
         let f = Geometry::within_limits(s, t, d).map_or(0, |geometry| geometry.f());
         let sum = f + clear + sectors(&files);

@@ -83,6 +83,8 @@ pub enum Call {
     PutAt,
     /// A put of one sector with the last sector as its goal.
     PutAtEnd,
+    Remove,
+    Get,
     Free,
     /// A sync after a put of one sector.
     Sync,
@@ -90,18 +92,20 @@ pub enum Call {
     SyncNothing,
     /// A sync to a card of which every byte differs.
     SyncAll,
+    Unmount,
     Land,
     /// A land of sector S, which is refused with 11 after the fit test.
     Fit,
     List,
     ReadList,
+    ReadGet,
     /// Reading's list with no line lent, which a card with files refuses with
     /// 10 after the soundness test; no row of its own.
     Sound,
 }
 
 /// The calls of the long table, in its order.
-pub const CALLS: [Call; 15] = [
+pub const CALLS: [Call; 19] = [
     Call::Make,
     Call::Read,
     Call::Mount,
@@ -110,13 +114,17 @@ pub const CALLS: [Call; 15] = [
     Call::Put(16),
     Call::PutAt,
     Call::PutAtEnd,
+    Call::Remove,
+    Call::Get,
     Call::Free,
     Call::Sync,
     Call::SyncNothing,
+    Call::Unmount,
     Call::Land,
     Call::Fit,
     Call::List,
     Call::ReadList,
+    Call::ReadGet,
 ];
 
 impl Call {
@@ -129,14 +137,18 @@ impl Call {
             Call::Put(sectors) => format!("put {sectors}"),
             Call::PutAt => "put 1, goal in the middle".into(),
             Call::PutAtEnd => "put 1, goal at the end".into(),
+            Call::Remove => "remove".into(),
+            Call::Get => "get".into(),
             Call::Free => "free".into(),
             Call::Sync => "sync".into(),
             Call::SyncNothing => "sync, nothing changed".into(),
             Call::SyncAll => "sync, all changed".into(),
+            Call::Unmount => "unmount".into(),
             Call::Land => "land".into(),
             Call::Fit => "land, no such sector".into(),
             Call::List => "list".into(),
             Call::ReadList => "reading's list".into(),
+            Call::ReadGet => "reading's get".into(),
             Call::Sound => "reading's list, no line".into(),
         }
     }
@@ -154,7 +166,7 @@ impl Call {
     fn on_a_card(self) -> bool {
         matches!(
             self,
-            Call::Make | Call::Read | Call::Mount | Call::ReadList | Call::Sound
+            Call::Make | Call::Read | Call::Mount | Call::ReadList | Call::ReadGet | Call::Sound
         )
     }
 }
@@ -170,6 +182,8 @@ pub struct Bed {
     pub name: Vec<u8>,
     /// The table that lists fill: a line for every entry.
     pub lines: Vec<Line>,
+    /// The output that gets fill.
+    pub out: Vec<u8>,
 }
 
 impl Bed {
@@ -198,7 +212,15 @@ impl Bed {
         if !call.on_a_card() {
             bed.mount();
         }
-        if matches!(call, Call::Sync | Call::Land | Call::Fit) {
+        let with_a_put = [
+            Call::Remove,
+            Call::Get,
+            Call::Sync,
+            Call::Unmount,
+            Call::Land,
+            Call::Fit,
+        ];
+        if with_a_put.contains(&call) {
             bed.put(&self.name, 1);
         }
         if call == Call::SyncAll {
@@ -219,6 +241,7 @@ impl Bed {
             session: Session::Closed.encode(),
             name: Directory::Fresh.name_of(0),
             lines: vec![Line::default(); 4 * d as usize],
+            out: vec![0; SECTOR * PAGE_SECTORS as usize],
         }
     }
 
@@ -288,9 +311,18 @@ impl Bed {
                 let (name, work) = (&self.name, &mut self.work);
                 store.put_at(&self.session, work, name, content, goal)
             }
+            Call::Remove => store.remove(&self.session, &mut self.work, &self.name),
+            Call::Get => {
+                let (name, out) = (&self.name, &mut self.out);
+                store.get(&self.session, &self.work, name, out).number
+            }
             Call::Free => store.free(&self.session, &self.work, &mut [0; 8]),
             Call::Sync | Call::SyncNothing | Call::SyncAll => {
                 store.sync(&mut self.session, &mut self.card, &mut self.work)
+            }
+            Call::Unmount => {
+                let (card, work) = (&mut self.card, &mut self.work);
+                store.unmount(&mut self.session, card, work).number
             }
             Call::Land => {
                 let sector = first_data(self.geometry);
@@ -302,6 +334,7 @@ impl Bed {
                 store.list(&self.session, &self.work, lines).number
             }
             Call::ReadList => store.read_list(&self.card, &mut self.lines).number,
+            Call::ReadGet => store.read_get(&self.card, &self.name, &mut self.out).number,
             Call::Sound => store.read_list(&self.card, &mut []).number,
         }
     }

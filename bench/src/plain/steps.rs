@@ -82,6 +82,53 @@ pub fn first_writes(card: &mut [u8], steps: &[Step], k: usize) {
     }
 }
 
+/// A mount as far as place `k`: sector 0 is the first.
+pub fn mount_first(card: &mut [u8], work: &[u8], k: u32) -> u32 {
+    mount_cut(card, work, k as usize)
+}
+
+/// A sync as far as place `k`, and how many sectors it wrote by then. The
+/// places are sector 0, every sector past the table, a barrier, the table
+/// sector and a barrier.
+pub fn sync_first(session: &Session, card: &mut [u8], work: &[u8], k: u32) -> Result<u32, u32> {
+    let steps = of_sync(session, card, work)?;
+    let geometry = session.fitting(work)?.geometry;
+    Ok(first_places(&geometry, card, &steps, k))
+}
+
+/// An unmount as far as place `k`: sync's places, and then sector 0, which is
+/// not counted.
+pub fn unmount_first(session: &Session, card: &mut [u8], work: &[u8], k: u32) -> Result<u32, u32> {
+    let steps = of_unmount(session, card, work)?;
+    let geometry = session.fitting(work)?.geometry;
+    Ok(first_places(&geometry, card, &steps, k))
+}
+
+/// Does the writes of a list that stand at the first `k` places, and counts
+/// those before the last barrier.
+fn first_places(geometry: &Geometry, card: &mut [u8], steps: &[Step], k: u32) -> u32 {
+    let before_barrier = geometry.s() - geometry.t();
+    let (mut barriers, mut count) = (0, 0);
+    for step in steps {
+        match step {
+            Step::Barrier => barriers += 1,
+            Step::Write { sector, content } => {
+                let place = match (barriers, *sector) {
+                    (0, 0) => 1,
+                    (0, past_table) => past_table - geometry.t() + 1,
+                    (1, _) => before_barrier + 2,
+                    _ => before_barrier + 4,
+                };
+                if place <= k {
+                    card[bytes_of(*sector)].copy_from_slice(content.as_slice());
+                    count += u32::from(barriers < 2);
+                }
+            }
+        }
+    }
+    count
+}
+
 /// A mount that is cut after its first `k` writes.
 pub fn mount_cut(card: &mut [u8], work: &[u8], k: usize) -> u32 {
     let steps = of_mount(card, work);

@@ -1,7 +1,10 @@
-//! What the tests share: a host with a card, a working image and a session.
+//! What the tests share: a host with a card, a working image and a session. Every
+//! call is made by the plain version and by the proved store, which must agree.
 #![allow(dead_code)]
 
-use bench::plain::{self, Line, Report, Room, Session};
+use bench::host::{Answer, Goal};
+use bench::plain::{word, Line, Report, Session};
+use bench::store::{Plain, Proved, Store};
 
 /// A card, a working image of its length and a session.
 #[derive(Clone, Debug, PartialEq, Eq)]
@@ -11,10 +14,69 @@ pub struct Host {
     pub session: Session,
 }
 
+/// Makes a call by the plain version and by the proved store, which must give
+/// and leave the same.
+fn both<T: PartialEq>(call: impl Fn(&dyn Store) -> T) -> T {
+    let [plain, proved] = [&Plain as &dyn Store, &Proved].map(call);
+    assert!(
+        plain == proved,
+        "the plain version and the proved store differ"
+    );
+    plain
+}
+
+/// A count, or a refusal, which counts 0.
+fn counted(answer: Answer) -> Result<u32, u32> {
+    match answer.number {
+        0 => Ok(answer.count),
+        refusal => {
+            assert_eq!(answer.count, 0);
+            Err(refusal)
+        }
+    }
+}
+
+/// Makes a card of S, T and D by both stores.
+pub fn make(s: u32, t: u32, d: u32, card: &mut [u8]) -> u32 {
+    let (number, made) = both(|store| {
+        let mut made = card.to_vec();
+        (store.make(s, t, d, &mut made), made)
+    });
+    card.copy_from_slice(&made);
+    number
+}
+
+/// Reads a card by both stores.
+pub fn read(card: &[u8]) -> Result<Report, u32> {
+    let (number, out) = both(|store| {
+        let mut out = [0; 16];
+        (store.read(card, &mut out), out)
+    });
+    match number {
+        0 => Ok(Report {
+            c: word(&out, 0, 0),
+            n: word(&out, 0, 1),
+            files: word(&out, 0, 2),
+            free: word(&out, 0, 3),
+        }),
+        refusal => Err(refusal),
+    }
+}
+
+/// Gets a file that a card shows by both stores.
+pub fn read_get(card: &[u8], name: &[u8], out: &mut [u8]) -> Result<u32, u32> {
+    let (answer, got) = both(|store| {
+        let mut got = out.to_vec();
+        (store.read_get(card, name, &mut got), got)
+    });
+    out.copy_from_slice(&got);
+    counted(answer)
+}
+
 /// A fresh card of S, T and D.
 pub fn fresh_card(s: u32, t: u32, d: u32) -> Vec<u8> {
     let mut card = vec![0xEE; 512 * s as usize];
-    assert_eq!(plain::make(s, t, d, &mut card), 0);
+    assert_eq!(make(s, t, d, &mut card), 0);
     card
 }
 
@@ -38,9 +100,14 @@ impl Host {
     }
 
     /// Mounts a card with a working image full of rubbish.
-    pub fn try_mount(mut card: Vec<u8>) -> (u32, Host) {
-        let mut work = vec![0xEE; card.len()];
-        let (number, session) = plain::mount(&mut card, &mut work);
+    pub fn try_mount(card: Vec<u8>) -> (u32, Host) {
+        let (number, card, work, session) = both(|store| {
+            let (mut card, mut work) = (card.clone(), vec![0xEE; card.len()]);
+            let mut session = [0xEE; 24];
+            let number = store.mount(&mut card, &mut work, &mut session);
+            (number, card, work, session)
+        });
+        let session = Session::decode(&session);
         (
             number,
             Host {
@@ -51,13 +118,40 @@ impl Host {
         )
     }
 
+    /// A call that changes the working image alone.
+    fn change(&mut self, call: impl Fn(&dyn Store, &[u8; 24], &mut [u8]) -> u32) -> u32 {
+        let session = self.session.encode();
+        let (number, work) = both(|store| {
+            let mut work = self.work.clone();
+            (call(store, &session, &mut work), work)
+        });
+        self.work = work;
+        number
+    }
+
+    /// A call that changes session, card and working image.
+    fn turn<T: PartialEq>(
+        &mut self,
+        call: impl Fn(&dyn Store, &mut [u8; 24], &mut [u8], &mut [u8]) -> T,
+    ) -> T {
+        let before = self.session.encode();
+        let (answer, session, card, work) = both(|store| {
+            let (mut session, mut card, mut work) = (before, self.card.clone(), self.work.clone());
+            let answer = call(store, &mut session, &mut card, &mut work);
+            (answer, session, card, work)
+        });
+        (self.card, self.work) = (card, work);
+        self.session = Session::decode(&session);
+        answer
+    }
+
     pub fn put(&mut self, name: &str, content: &[u8]) -> u32 {
-        plain::put(&self.session, &mut self.work, name.as_bytes(), content)
+        self.change(|store, session, work| store.put(session, work, name.as_bytes(), content))
     }
 
     pub fn put_at(&mut self, name: &str, content: &[u8], goal: u32) -> u32 {
-        let (session, name) = (&self.session, name.as_bytes());
-        plain::put_at(session, &mut self.work, name, content, goal)
+        let name = name.as_bytes();
+        self.change(|store, session, work| store.put_at(session, work, name, content, Goal(goal)))
     }
 
     /// Puts so many bytes of some content, which must be taken.
@@ -67,19 +161,39 @@ impl Host {
     }
 
     pub fn remove(&mut self, name: &str) -> u32 {
-        plain::remove(&self.session, &mut self.work, name.as_bytes())
+        self.change(|store, session, work| store.remove(session, work, name.as_bytes()))
     }
 
     pub fn sync(&mut self) -> u32 {
-        plain::sync(&mut self.session, &mut self.card, &mut self.work)
+        self.turn(|store, session, card, work| store.sync(session, card, work))
+    }
+
+    /// The same, with the sectors written.
+    pub fn sync_count(&mut self) -> Result<u32, u32> {
+        counted(self.turn(|store, session, card, work| store.sync_count(session, card, work)))
     }
 
     pub fn unmount(&mut self) -> u32 {
-        plain::unmount(&mut self.session, &mut self.card, &mut self.work)
+        self.unmount_count().err().unwrap_or(0)
+    }
+
+    /// The same, with the sectors that its sync wrote.
+    pub fn unmount_count(&mut self) -> Result<u32, u32> {
+        counted(self.turn(|store, session, card, work| store.unmount(session, card, work)))
     }
 
     pub fn land(&mut self, sector: u32) -> u32 {
-        plain::land(&self.session, &mut self.card, &self.work, sector)
+        self.turn(|store, session, card, work| store.land(session, card, work, sector))
+    }
+
+    /// The card after so many places of a sync, and the sectors written.
+    pub fn sync_steps(&self, k: u32) -> Result<(u32, Vec<u8>), u32> {
+        let session = self.session.encode();
+        let (answer, card) = both(|store| {
+            let mut card = self.card.clone();
+            (store.sync_steps(&session, &mut card, &self.work, k), card)
+        });
+        counted(answer).map(|count| (count, card))
     }
 
     /// The free sectors; none may wait for a sync.
@@ -92,47 +206,64 @@ impl Host {
 
     /// The free sectors and those that wait for a sync.
     pub fn figures(&self) -> Result<(u32, u32), u32> {
-        let room = plain::free(&self.session, &self.work);
-        room.map(|Room { free, waiting }| (free, waiting))
+        let (number, out) = both(|store| {
+            let mut out = [0; 8];
+            let number = store.free(&self.session.encode(), &self.work, &mut out);
+            (number, out)
+        });
+        match number {
+            0 => Ok((word(&out, 0, 0), word(&out, 0, 1))),
+            refusal => Err(refusal),
+        }
     }
 
     pub fn get(&self, name: &str, room: usize) -> Result<Vec<u8>, u32> {
-        let mut out = vec![0xEE; room];
-        let count = plain::get(&self.session, &self.work, name.as_bytes(), &mut out)?;
-        assert!(out[count as usize..].iter().all(|b| *b == 0xEE));
-        out.truncate(count as usize);
-        Ok(out)
+        let (answer, mut out) = both(|store| {
+            let mut out = vec![0xEE; room];
+            let session = self.session.encode();
+            let answer = store.get(&session, &self.work, name.as_bytes(), &mut out);
+            (answer, out)
+        });
+        let count = answer.count as usize;
+        assert!(out[count..].iter().all(|b| *b == 0xEE));
+        out.truncate(count);
+        counted(answer).map(|_| out)
     }
 
     /// The present files as `name bytes start sectors`.
     pub fn files(&self) -> Vec<String> {
-        let mut lines = vec![Line::default(); 256];
-        let count = plain::list(&self.session, &self.work, &mut lines);
-        texts(&lines[..count.expect("list is taken") as usize])
+        let (answer, lines) = both(|store| {
+            let mut lines = vec![Line::default(); 256];
+            let answer = store.list(&self.session.encode(), &self.work, &mut lines);
+            (answer, lines)
+        });
+        texts(&lines[..counted(answer).expect("list is taken") as usize])
     }
 
     /// A word of the working image.
     pub fn word(&self, sector: u32, i: usize) -> u32 {
-        plain::word(&self.work, sector, i)
+        word(&self.work, sector, i)
     }
 
     /// What the card would show after a cut now.
     pub fn read(&self) -> Result<Report, u32> {
-        plain::read(&self.card)
+        read(&self.card)
     }
 }
 
 /// The files that a card shows, as `name bytes start sectors`.
 pub fn shown(card: &[u8]) -> Vec<String> {
-    let mut lines = vec![Line::default(); 256];
-    let count = plain::read_list(card, &mut lines);
-    texts(&lines[..count.expect("the card is sound") as usize])
+    let (answer, lines) = both(|store| {
+        let mut lines = vec![Line::default(); 256];
+        (store.read_list(card, &mut lines), lines)
+    });
+    texts(&lines[..counted(answer).expect("the card is sound") as usize])
 }
 
 /// The content of a file that a card shows.
 pub fn shown_content(card: &[u8], name: &str) -> Result<Vec<u8>, u32> {
     let mut out = vec![0; card.len()];
-    let count = plain::read_get(card, name.as_bytes(), &mut out)?;
+    let count = read_get(card, name.as_bytes(), &mut out)?;
     out.truncate(count as usize);
     Ok(out)
 }

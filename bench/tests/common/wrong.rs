@@ -2,9 +2,8 @@
 
 use crate::paged;
 use bench::host::{Answer, Goal, ReportBytes, RoomBytes, SessionBytes};
-use bench::plain::steps::Step;
 use bench::plain::{self, set_word, word, Geometry, Line, Room, Session, PAGE_SECTORS, SECTOR};
-use bench::store::{Plain, Steps, Store};
+use bench::store::{Plain, Store};
 use std::borrow::Cow;
 use std::ops::Range;
 
@@ -27,6 +26,22 @@ pub enum Wrong {
     MakesUpFree,
     /// Mount says 0 where it should say 2.
     Says2As0,
+    /// Remove leaves no old version, so that a cut shows the file no more.
+    RemovesOld,
+    /// Remove leaves the bits of the sectors set.
+    RemoveKeepsBits,
+    /// Get fills the rest of its output with zeros.
+    GetsPast,
+    /// Get says 0 where the output is too short, and fills it.
+    GetsShort,
+    /// Reading's get fills the rest of its output with zeros.
+    ReadGetsPast,
+    /// Unmount writes sector 0 and leaves out the sync.
+    UnmountsOnly,
+    /// Unmount counts sector 0.
+    CountsSector0,
+    /// Unmount leaves the session open.
+    StaysOpen,
     /// List clears the line after the last that it counts.
     ListsPast,
     /// A list with one file more than lines leaves it out and says 0.
@@ -78,6 +93,14 @@ impl Store for Wrong {
         number
     }
 
+    fn read_get(&self, card: &[u8], name: &[u8], out: &mut [u8]) -> Answer {
+        let answer = Plain.read_get(card, name, out);
+        if *self == Wrong::ReadGetsPast && answer.number == 0 {
+            out[answer.count as usize..].fill(0);
+        }
+        answer
+    }
+
     fn mount(&self, card: &mut [u8], work: &mut [u8], session: &mut SessionBytes) -> u32 {
         match Plain.mount(card, work, session) {
             2 if *self == Wrong::Says2As0 => 0,
@@ -114,6 +137,15 @@ impl Store for Wrong {
         let (f, s) = geometry(session).map_or((0, 0), |g| (g.f(), g.s()));
         match self {
             _ if goal == Goal(0) => self.put(session, work, name, content),
+            Wrong::Reuses
+            | Wrong::InPlace
+            | Wrong::CrossesPages
+            | Wrong::OneGroup
+            | Wrong::MarksRefusals
+                if goal.0 < s =>
+            {
+                self.put(session, work, name, content)
+            }
             Wrong::IgnoresGoal if goal.0 < s => plain(work, Goal(0)),
             Wrong::PastGoal if goal.0 + 1 < s => plain(work, Goal(goal.0 + 1)),
             Wrong::OnlyPastGoal => put_only_past(session, work, name, content, goal),
@@ -126,6 +158,39 @@ impl Store for Wrong {
             Wrong::ReusesAtGoal => put_reusing_at(session, work, name, content, goal),
             _ => plain(work, goal),
         }
+    }
+
+    fn remove(&self, session: &SessionBytes, work: &mut [u8], name: &[u8]) -> u32 {
+        let files = lines(session, work);
+        let number = Plain.remove(session, work, name);
+        let line = files.iter().find(|line| line.used_name() == name);
+        if let (0, Some(line), Some(g)) = (number, line, geometry(session)) {
+            match self {
+                Wrong::RemovesOld => forget_old(work, &g, line),
+                Wrong::RemoveKeepsBits if line.sectors > 0 => {
+                    let run = line.start..line.start + line.sectors;
+                    paged::change_bits(session, work, &g, run, true);
+                }
+                _ => {}
+            }
+        }
+        number
+    }
+
+    fn get(&self, session: &SessionBytes, work: &[u8], name: &[u8], out: &mut [u8]) -> Answer {
+        let answer = Plain.get(session, work, name, out);
+        match (self, answer.number) {
+            (Wrong::GetsPast, 0) => out[answer.count as usize..].fill(0),
+            (Wrong::GetsShort, 10) => {
+                let mut all = vec![0; work.len()];
+                Plain.get(session, work, name, &mut all);
+                out.copy_from_slice(&all[..out.len()]);
+                let count = out.len() as u32;
+                return Answer { number: 0, count };
+            }
+            _ => {}
+        }
+        answer
     }
 
     fn free(&self, session: &SessionBytes, work: &[u8], out: &mut RoomBytes) -> u32 {
@@ -153,6 +218,23 @@ impl Store for Wrong {
         number
     }
 
+    fn unmount(&self, session: &mut SessionBytes, card: &mut [u8], work: &mut [u8]) -> Answer {
+        let (open, before) = (*session, card.to_vec());
+        let mut answer = Plain.unmount(session, card, work);
+        match self {
+            _ if answer.number != 0 => {}
+            Wrong::CountsSector0 => answer.count += 1,
+            Wrong::StaysOpen => *session = open,
+            Wrong::UnmountsOnly => {
+                let sector_0: [u8; SECTOR] = card[..SECTOR].try_into().expect("a sector");
+                card.copy_from_slice(&before);
+                card[..SECTOR].copy_from_slice(&sector_0);
+            }
+            _ => {}
+        }
+        answer
+    }
+
     fn land(&self, session: &SessionBytes, card: &mut [u8], work: &[u8], sector: u32) -> u32 {
         let beside = sector ^ u32::from(*self == Wrong::LandsBeside);
         Plain.land(session, card, work, beside)
@@ -168,14 +250,29 @@ impl Store for Wrong {
         })
     }
 
-    fn sync_steps(&self, session: &SessionBytes, card: &[u8], work: &[u8]) -> Steps {
-        let mut list = Plain.sync_steps(session, card, work)?;
-        if *self == Wrong::TableFirst {
-            let at = list.iter().position(|step| *step == Step::Barrier);
-            let table = list.remove(at.map_or(0, |at| at + 1));
-            list.insert(0, table);
+    fn mount_steps(&self, card: &mut [u8], work: &[u8], k: u32) -> u32 {
+        Plain.mount_steps(card, work, k)
+    }
+
+    fn sync_steps(&self, session: &SessionBytes, card: &mut [u8], work: &[u8], k: u32) -> Answer {
+        if *self == Wrong::TableFirst && k > 0 {
+            return table_first(session, card, work, k);
         }
-        Ok(list)
+        Plain.sync_steps(session, card, work, k)
+    }
+
+    fn unmount_steps(
+        &self,
+        session: &SessionBytes,
+        card: &mut [u8],
+        work: &[u8],
+        k: u32,
+    ) -> Answer {
+        let mut answer = Plain.unmount_steps(session, card, work, k);
+        if *self == Wrong::CountsSector0 && answer.number == 0 {
+            answer.count += 1;
+        }
+        answer
     }
 }
 
@@ -211,6 +308,33 @@ impl Wrong {
             }
         }
         answer
+    }
+}
+
+/// A sync with the table sector at its first place: then sector 0 and the
+/// sectors past the table.
+fn table_first(session: &SessionBytes, card: &mut [u8], work: &[u8], k: u32) -> Answer {
+    let mut done = card.to_vec();
+    let all = Plain.sync_steps(session, &mut done, work, u32::MAX);
+    let answer = Plain.sync_steps(session, card, work, k - 1);
+    if answer.number == 0 {
+        let sector = 1 + word(session, 0, 4) / 128;
+        let bytes = SECTOR * sector as usize..SECTOR * (sector as usize + 1);
+        card[bytes.clone()].copy_from_slice(&done[bytes]);
+    }
+    let count = (answer.count + u32::from(answer.number == 0)).min(all.count);
+    Answer { count, ..answer }
+}
+
+/// The entry of a file that was just removed forgets its old version.
+fn forget_old(work: &mut [u8], g: &Geometry, line: &Line) {
+    let entry = (0..g.entries()).find(|i| {
+        let at = SECTOR * g.directory() as usize + 128 * i + 12;
+        let old = word(work, g.directory(), 32 * i + 15);
+        work[at..at + 32] == line.name && old == 1
+    });
+    if let Some(i) = entry {
+        (15..19).for_each(|k| set_word(work, g.directory(), 32 * i + k, 0));
     }
 }
 
