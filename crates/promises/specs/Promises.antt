@@ -7,7 +7,6 @@ use Prim.Native.Nat.{ℕ, _+_}
 use lib.ListN.{length, take}
 use Rattle.sectors.specs.Sectors.{Step, applySteps}
 use Rattle.entries.specs.declared.Version.the-variants.{Absent, Present}
-use Rattle.entries.specs.Entries.{sectorsFor}
 use Rattle.card.specs.Plan.{doIt}
 use Rattle.session.specs.declared.Opened.{Opened}
 use Rattle.session.specs.declared.Session.the-variants.{Open}
@@ -60,9 +59,9 @@ pub record Promises : Type 1 where
   pub putPlaces : PutPlaces
   pub removePlaces : RemovePlaces
   pub putLeaves : (s : Opened) (work n d : List ℕ) (goal : ℕ) → putAt (Open s) work n d goal .answer .number ≡ 0
-      → (j : ℕ) × (a : ℕ) × (putPlan s work n d goal ≡ doIt j a) × Untouched s j a (sectorsFor (length d)) (Present (putRun a d)) work n d (putAt (Open s) work n d goal .image)
+      → (j : ℕ) × (a : ℕ) × (putPlan s work n d goal ≡ doIt j a) × Untouched s j (Present (putRun a d)) work n d (putAt (Open s) work n d goal .image)
   pub removeLeaves : (s : Opened) (work n : List ℕ) → remove (Open s) work n .answer .number ≡ 0
-      → (j : ℕ) × (a : ℕ) × (removePlan s work n ≡ doIt j a) × Untouched s j 0 0 Absent work n [] (remove (Open s) work n .image)
+      → (j : ℕ) × (a : ℕ) × (removePlan s work n ≡ doIt j a) × Untouched s j Absent work n [] (remove (Open s) work n .image)
   pub putPairs : PutPairs
   pub removePairs : RemovePairs
   pub mountLeaves : MountChanges
