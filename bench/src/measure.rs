@@ -34,50 +34,54 @@ pub type Progress<'a> = &'a dyn Fn(&str, usize, usize);
 /// Measures the named parts; `before` is the rows of an earlier tree.
 pub fn take(parts: &[&str], before: &[Row], progress: Progress) -> Taken {
     let asked = |part: &str| parts.contains(&part);
-    let part = |name: &str, table: &dyn Fn() -> String| {
-        if !asked(name) {
-            return String::new();
-        }
-        progress(name, 0, 1);
-        table() + "\n"
-    };
-    let first = [
-        part("fit", &fit::fits),
-        part("free", &fit::frees),
-        part("sync", &copies::syncs),
-        part("mount", &copies::mounts),
-        part("goal", &goals::goals),
-    ];
-    let grown = if asked("growth") {
+    let first = subjects(parts, progress);
+    let (mut grown, mut own) = (Vec::new(), Vec::new());
+    if asked("growth") {
         progress("growth", 0, 1);
-        growth::growths()
-    } else {
-        Vec::new()
-    };
-    let rows = if asked("calls") {
-        rows(progress)
-    } else {
-        Vec::new()
-    };
-    let mut tables = vec![machine::told() + "\n"];
-    if !rows.is_empty() {
-        tables.push(calls::ratios(&rows) + "\n");
+        grown = growth::growths();
     }
-    if !rows.is_empty() && !before.is_empty() {
-        tables.push(calls::changes(&rows, before) + "\n");
+    if asked("calls") {
+        own = rows(progress);
+    }
+    let mut tables = vec![machine::told()];
+    if asked("calls") {
+        tables.push(calls::ratios(&own));
+    }
+    if asked("calls") && !before.is_empty() {
+        tables.push(calls::changes(&own, before));
     }
     tables.extend(first);
-    if !grown.is_empty() {
-        tables.push(growth::growth_table(&grown) + "\n");
+    if asked("growth") {
+        tables.push(growth::growth_table(&grown));
     }
-    if !rows.is_empty() {
-        tables.push(calls::calls(&rows, before));
+    if asked("calls") {
+        tables.push(calls::calls(&own, before));
     }
-    let both = !rows.is_empty() && !grown.is_empty();
+    let both = asked("calls") && asked("growth");
     Taken {
-        tables: tables.concat(),
-        picture: both.then(|| picture::picture(&rows, &grown)),
+        tables: tables.join("\n"),
+        picture: both.then(|| picture::picture(&own, &grown)),
     }
+}
+
+/// A part's name, and what measures it.
+type Subject = (&'static str, fn() -> String);
+
+/// The parts that are one table each.
+fn subjects(parts: &[&str], progress: Progress) -> Vec<String> {
+    let all: [Subject; 5] = [
+        ("fit", fit::fits),
+        ("free", fit::frees),
+        ("sync", copies::syncs),
+        ("mount", copies::mounts),
+        ("goal", goals::goals),
+    ];
+    let asked = all.iter().filter(|(name, _)| parts.contains(name));
+    let taken = asked.map(|(name, table)| {
+        progress(name, 0, 1);
+        table()
+    });
+    taken.collect()
 }
 
 /// Measures the rows of the long table.

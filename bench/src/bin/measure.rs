@@ -30,7 +30,11 @@ const BEFORE: &str = concat!(env!("CARGO_MANIFEST_DIR"), "/before.rows");
 fn main() -> ExitCode {
     let arguments: Vec<String> = env::args().skip(1).collect();
     let words: Vec<&str> = arguments.iter().map(String::as_str).collect();
-    match run(&words) {
+    let outcome = run(&words);
+    if stderr().is_terminal() {
+        eprint!("\r{:60}\r", "");
+    }
+    match outcome {
         Ok(()) => ExitCode::SUCCESS,
         Err(fault) => {
             eprintln!("measure: {fault}");
@@ -108,16 +112,19 @@ fn write(file: &Path, text: &str) -> Result<(), String> {
     fs::write(file, text).map_err(|fault| format!("{}: {fault}", file.display()))
 }
 
-/// Tells on standard error what is being measured: a line a part, and on a
-/// terminal how many rows of it are done.
+/// Tells on standard error what is being measured: a line a part, and of a long
+/// one how many rows are done.
 fn progress() -> Progress<'static> {
     &|part, done, all| {
-        let shown = stderr().is_terminal();
-        if shown {
-            eprint!("\r{part}: {done} of {all}   ");
+        let rows = match all {
+            1 => String::new(),
+            _ => format!(", row {} of {all}", done + 1),
+        };
+        if stderr().is_terminal() {
+            eprint!("\rmeasuring {part}{rows}{:20}", "");
             stderr().flush().ok();
         } else if done % 50 == 0 {
-            eprintln!("{part}: {done} of {all}");
+            eprintln!("measuring {part}{rows}");
         }
     }
 }

@@ -6,6 +6,20 @@ use super::rows::Row;
 /// A row is slower than before if a ratio grew by more than 3 in 100.
 const SLOWER: f64 = 1.03;
 
+/// The columns of the changes.
+const CHANGES: [&str; 10] = [
+    "call",
+    "rows",
+    "ratio, least",
+    "middle",
+    "most",
+    "slower",
+    "passes, least",
+    "middle",
+    "most",
+    "slower",
+];
+
 /// How a row stands to the same one of an earlier tree.
 struct Change {
     /// Proved / plain, now and then.
@@ -100,25 +114,32 @@ pub fn changes(rows: &[Row], before: &[Row]) -> String {
                 .map(told),
         );
     }
-    let head = [
-        "call",
-        "rows",
-        "ratio, least",
-        "middle",
-        "most",
-        "slower",
-        "passes, least",
-        "middle",
-        "most",
-        "slower",
-    ];
     format!(
         "### Now and before\n\n\
-         Before is the tree without any request of document 02, measured on the same processor. Ratio is\n\
-         proved / plain, now over before; the plain version changed too, so passes beside it: the proved\n\
-         store's time in passes over the F sectors, now over before. Slower: by more than 3 in 100.\n\n{}\n{}",
-        table(1, &head, &lines),
+         Before is the tree without any request of document 02 (`bench/before.rows`), or that of the file\n\
+         given, measured on the same processor. Ratio is\n\
+         proved / plain, now over before. The plain version changed too, and its speed moves with every\n\
+         build, so passes tell more: the proved store's time in passes over the F sectors, now over before.\n\
+         A pass is the same code in both. Slower: by more than 3 in 100.\n\n{}\n{}\n{}",
+        table(1, &CHANGES, &lines),
+        smallest_read(rows, before),
         list_of(&slower)
+    )
+}
+
+/// How often faster read is on the smallest card, which No. 6 asks for.
+fn smallest_read(rows: &[Row], before: &[Row]) -> String {
+    let own = rows
+        .iter()
+        .filter(|row| row.geometry.0 == 10 && row.call == "read");
+    let faster = own.filter_map(|row| {
+        let passes = change(row, before)?.passes;
+        Some(format!("{:.2} times, {}", 1.0 / passes, row.directory))
+    });
+    let list: Vec<String> = faster.collect();
+    format!(
+        "Read on S = 10 is faster than before by {}.\n",
+        list.join("; ")
     )
 }
 

@@ -12,6 +12,21 @@ const SPENT: Duration = Duration::from_millis(800);
 const SMALL_SYNC: f64 = 1.3;
 const MOUNT: f64 = 1.3;
 
+/// The columns of the table of syncs.
+const SYNCS: [&str; 11] = [
+    "S, T, D",
+    "changed",
+    "sync",
+    "compare",
+    "copy",
+    "fit",
+    "sync / compare",
+    "(sync - fit) / compare",
+    "sync / copy",
+    "sectors written",
+    "of a full copy",
+];
+
 /// Sync with nothing changed, after a put of one sector, and to a card of which
 /// all bytes differ.
 pub fn syncs() -> String {
@@ -22,24 +37,11 @@ pub fn syncs() -> String {
             rows.push(sync_row(geometry, call, filled.ready(call)));
         }
     }
-    let head = [
-        "S, T, D",
-        "changed",
-        "sync",
-        "compare",
-        "copy",
-        "fit",
-        "sync / compare",
-        "(sync - fit) / compare",
-        "sync / copy",
-        "sectors written",
-        "of a full copy",
-    ];
     "### Sync\n\n\
      The directory is full. Compare and copy are one plain compare and one plain copy of the two\n\
      images. A full copy writes every sector outside the table and one of it.\n\n"
         .to_string()
-        + &table(2, &head, &rows)
+        + &table(2, &SYNCS, &rows)
 }
 
 fn sync_row(geometry: Geometry, call: Call, bed: Bed) -> Vec<String> {
@@ -65,14 +67,9 @@ fn sync_row(geometry: Geometry, call: Call, bed: Bed) -> Vec<String> {
     } else {
         f64::INFINITY
     };
-    let changed = match call {
-        Call::SyncNothing => "nothing",
-        Call::Sync => "one put",
-        _ => "all bytes",
-    };
     vec![
         card(geometry),
-        changed.into(),
+        changed_before(call).into(),
         nanoseconds(sync),
         nanoseconds(compare),
         nanoseconds(copy),
@@ -84,6 +81,26 @@ fn sync_row(geometry: Geometry, call: Call, bed: Bed) -> Vec<String> {
         grouped(s - t + 1),
     ]
 }
+
+fn changed_before(call: Call) -> &'static str {
+    match call {
+        Call::SyncNothing => "nothing",
+        Call::Sync => "one put",
+        _ => "all bytes",
+    }
+}
+
+/// The columns of the table of mounts.
+const MOUNTS: [&str; 8] = [
+    "S, T, D",
+    "directory",
+    "mount",
+    "copy",
+    "sound",
+    "mount / copy",
+    "(mount - sound) / copy",
+    "mount / plain",
+];
 
 /// Mount beside one plain copy of the card.
 pub fn mounts() -> String {
@@ -111,19 +128,9 @@ pub fn mounts() -> String {
             ]);
         }
     }
-    let head = [
-        "S, T, D",
-        "directory",
-        "mount",
-        "copy",
-        "sound",
-        "mount / copy",
-        "(mount - sound) / copy",
-        "mount / plain",
-    ];
     "### Mount\n\n\
      Beside one plain copy of the card. The soundness test alone is reading's list with no line\n\
      lent.\n\n"
         .to_string()
-        + &table(2, &head, &rows)
+        + &table(2, &MOUNTS, &rows)
 }

@@ -181,6 +181,30 @@ fn spent(all: &Fits) -> String {
         + &table(1, &["what", "ns"], &rows)
 }
 
+/// What free takes beyond the fit test, in passes over the pages; nothing where
+/// the difference is too small beside the fit test to be seen.
+fn beyond(free: f64, fit: f64, pages: f64) -> String {
+    if free < 1.001 * fit {
+        return "-".into();
+    }
+    ratio((free - fit) / pages)
+}
+
+/// The columns of the table of frees.
+const FREES: [&str; 11] = [
+    "S, T, D",
+    "directory",
+    "free",
+    "plain",
+    "free / plain",
+    "fit",
+    "free / fit",
+    "pass",
+    "free / pass",
+    "pages",
+    "(free - fit) / pages",
+];
+
 /// Free beside the plain version, one pass and the bitmap's pages.
 pub fn frees() -> String {
     let mut rows = Vec::new();
@@ -207,25 +231,12 @@ pub fn frees() -> String {
                 nanoseconds(pass),
                 ratio(free / pass),
                 nanoseconds(pages),
-                ratio((free - fit) / pages),
+                beyond(free, fit, pages),
             ]);
         }
     }
-    let head = [
-        "S, T, D",
-        "directory",
-        "free",
-        "plain",
-        "free / plain",
-        "fit",
-        "free / fit",
-        "pass",
-        "free / pass",
-        "pages",
-        "(free - fit) / pages",
-    ];
     "### Free\n\n\
      Pages is one pass over the bitmap's pages alone, two for each 4,096 sectors.\n\n"
         .to_string()
-        + &table(2, &head, &rows)
+        + &table(2, &FREES, &rows)
 }

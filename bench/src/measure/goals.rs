@@ -12,8 +12,8 @@ const SPENT: Duration = Duration::from_millis(800);
 const FILE: usize = 16;
 const ROOM: u32 = 64;
 const FILLER: &[u8] = b"filler";
-/// From a goal a put may take so many times what it takes from 0.
-const AIM: f64 = 1.05;
+/// The slowest put from a goal may take so many times the slowest from 0.
+const AIM: f64 = 1.0;
 
 /// Where there is room.
 #[derive(Clone, Copy, PartialEq, Eq)]
@@ -119,9 +119,9 @@ pub fn goals() -> String {
         }
         let Worst { zero, goal } = worst;
         told += &format!(
-            "- S = {}: the slowest search from 0 is a put of {zero:.0} ns, from another goal {goal:.0} ns: {:.2}.\n",
+            "- S = {}: the slowest search from 0 is a put of {zero:.0} ns, from another goal {goal:.0} ns: {}.\n",
             grouped(geometry.0),
-            goal / zero
+            marked(goal / zero, AIM)
         );
     }
     let head = [
@@ -172,7 +172,7 @@ fn of_room(geometry: Geometry, room: Room, worst: &mut Worst) -> Vec<Vec<String>
             nanoseconds(put),
             nanoseconds(fit),
             ratio(put / fit),
-            marked(put / zero, AIM),
+            ratio(put / zero),
         ]
     };
     goals.into_iter().zip(timed).map(row).collect()

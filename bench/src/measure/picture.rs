@@ -67,63 +67,60 @@ fn line(text: &mut String, (x, y): (f64, f64), (to_x, to_y): (f64, f64), style: 
     );
 }
 
+fn dot(text: &mut String, (x, y): (f64, f64), colour: &str) {
+    let _ = writeln!(
+        text,
+        "<circle cx=\"{x:.1}\" cy=\"{y:.1}\" r=\"3\" fill=\"{colour}\" fill-opacity=\"0.7\"/>"
+    );
+}
+
 const GREY: &str = "stroke=\"#d9dee3\"";
+const BLACK: &str = "stroke=\"#111\"";
+/// The cards of the growth.
+const SECTORS: [f64; 3] = [256.0, 4_096.0, 65_536.0];
 
 /// A dot for each row, a line of dots for each call.
 fn ratios(text: &mut String, rows: &[Row]) {
     let all = rows.iter().map(Row::ratio);
     let x = Scale {
-        from: (all.clone().fold(0.5, f64::min), 150.0),
+        from: (all.clone().fold(0.5, f64::min), 168.0),
         to: (all.fold(2.0, f64::max), 430.0),
     };
-    label(
-        text,
-        (20.0, 20.0),
-        "start",
-        "#111",
-        "proved / plain, a dot for each row of the table",
-    );
+    ratio_axis(text, &x);
+    let mut calls: Vec<&str> = Vec::new();
+    for row in rows {
+        if !calls.contains(&row.call.as_str()) {
+            calls.push(&row.call);
+        }
+    }
+    let step = (BOTTOM - TOP) / calls.len().max(1) as f64;
+    for (i, call) in calls.iter().enumerate() {
+        let y = TOP + step * (i as f64 + 0.5);
+        label(text, (160.0, y + 4.0), "end", "#333", call);
+        for row in rows.iter().filter(|row| row.call == *call) {
+            let colour = CARDS.iter().find(|(s, _)| *s == row.geometry.0);
+            let colour = colour.map_or("#333", |(_, colour)| colour);
+            dot(text, (x.at(row.ratio()), y), colour);
+        }
+    }
+}
+
+/// The head of the ratios, their scale, and what the colours mean.
+fn ratio_axis(text: &mut String, x: &Scale) {
+    let head = "proved / plain, a dot for each row of the table";
+    label(text, (20.0, 20.0), "start", "#111", head);
     for value in [0.01, 0.03, 0.1, 0.3, 1.0, 3.0, 10.0] {
         if !(x.from.0..=x.to.0).contains(&value) {
             continue;
         }
-        let style = if value == 1.0 {
-            "stroke=\"#111\""
-        } else {
-            GREY
-        };
+        let style = if value == 1.0 { BLACK } else { GREY };
         line(text, (x.at(value), TOP), (x.at(value), BOTTOM), style);
         let words = value.to_string();
         label(text, (x.at(value), BOTTOM + 16.0), "middle", "#555", &words);
     }
-    let mut calls: Vec<&str> = rows.iter().map(|row| row.call.as_str()).collect();
-    let mut seen: Vec<&str> = Vec::new();
-    calls.retain(|call| {
-        !seen.contains(call) && {
-            seen.push(call);
-            true
-        }
-    });
-    let step = (BOTTOM - TOP) / calls.len().max(1) as f64;
-    for (i, call) in calls.iter().enumerate() {
-        let y = TOP + step * (i as f64 + 0.5);
-        label(text, (142.0, y + 4.0), "end", "#333", call);
-        for row in rows.iter().filter(|row| row.call == *call) {
-            let colour = CARDS.iter().find(|(s, _)| *s == row.geometry.0);
-            let colour = colour.map_or("#333", |(_, colour)| colour);
-            let _ = writeln!(
-                text,
-                "<circle cx=\"{:.1}\" cy=\"{y:.1}\" r=\"3\" fill=\"{colour}\" fill-opacity=\"0.7\"/>",
-                x.at(row.ratio())
-            );
-        }
-    }
     for (i, (s, colour)) in CARDS.iter().enumerate() {
-        let at = 150.0 + 75.0 * i as f64;
-        let _ = writeln!(
-            text,
-            "<circle cx=\"{at}\" cy=\"36\" r=\"3\" fill=\"{colour}\"/>"
-        );
+        let at = 168.0 + 72.0 * i as f64;
+        dot(text, (at, 36.0), colour);
         label(text, (at + 7.0, 40.0), "start", "#333", &format!("S = {s}"));
     }
 }
@@ -136,36 +133,9 @@ fn growth(text: &mut String, grown: &[Grown]) {
     };
     let y = Scale {
         from: (100.0, BOTTOM),
-        to: (2e7, TOP),
+        to: (1e8, TOP),
     };
-    label(
-        text,
-        (470.0, 20.0),
-        "start",
-        "#111",
-        "time of a call as the card grows, full directory",
-    );
-    for (value, words) in [
-        (1e2, "100 ns"),
-        (1e3, "1 us"),
-        (1e4, "10 us"),
-        (1e5, "100 us"),
-        (1e6, "1 ms"),
-        (1e7, "10 ms"),
-    ] {
-        line(text, (520.0, y.at(value)), (720.0, y.at(value)), GREY);
-        label(text, (514.0, y.at(value) + 4.0), "end", "#555", words);
-    }
-    for s in [256.0, 4_096.0, 65_536.0] {
-        line(text, (x.at(s), TOP), (x.at(s), BOTTOM), GREY);
-        label(
-            text,
-            (x.at(s), BOTTOM + 16.0),
-            "middle",
-            "#555",
-            &format!("S = {s}"),
-        );
-    }
+    growth_axes(text, &x, &y);
     let mut ends = Vec::new();
     for (what, colour) in LINES {
         let same = |one: &&Grown| one.what == what && one.directory == Directory::Full;
@@ -173,17 +143,39 @@ fn growth(text: &mut String, grown: &[Grown]) {
             continue;
         };
         let [a, b, c] = one.times.map(|time| y.at(time));
+        let [at_a, at_b, at_c] = SECTORS.map(|s| x.at(s));
         let _ = writeln!(
             text,
-            "<polyline points=\"{:.1},{a:.1} {:.1},{b:.1} {:.1},{c:.1}\" fill=\"none\" \
-             stroke=\"{colour}\" stroke-width=\"1.8\"/>",
-            x.at(256.0),
-            x.at(4_096.0),
-            x.at(65_536.0)
+            "<polyline points=\"{at_a:.1},{a:.1} {at_b:.1},{b:.1} {at_c:.1},{c:.1}\" fill=\"none\" \
+             stroke=\"{colour}\" stroke-width=\"1.8\"/>"
         );
         ends.push((c, what, colour));
     }
     names_apart(text, ends);
+}
+
+/// The head of the growth, its times and its cards.
+fn growth_axes(text: &mut String, x: &Scale, y: &Scale) {
+    let head = "time of a call as the card grows, full directory";
+    label(text, (470.0, 20.0), "start", "#111", head);
+    let times = [
+        (1e2, "100 ns"),
+        (1e3, "1 us"),
+        (1e4, "10 us"),
+        (1e5, "100 us"),
+        (1e6, "1 ms"),
+        (1e7, "10 ms"),
+        (1e8, "100 ms"),
+    ];
+    for (value, words) in times {
+        line(text, (520.0, y.at(value)), (720.0, y.at(value)), GREY);
+        label(text, (514.0, y.at(value) + 4.0), "end", "#555", words);
+    }
+    for s in SECTORS {
+        line(text, (x.at(s), TOP), (x.at(s), BOTTOM), GREY);
+        let words = format!("S = {s}");
+        label(text, (x.at(s), BOTTOM + 16.0), "middle", "#555", &words);
+    }
 }
 
 /// The lines' names at their ends, none on another.
