@@ -116,7 +116,7 @@ module _ (tab : List ℕ) where
         join _ _ (parted-in g r (run p) I (run-is g (run p) (runs 0 (omega arith))) (λ n. omega (arith, h n, cover-entry tab p es n)))
         (row-parted r es I (λ j l. runs (suc j) (omega arith)) (λ n. omega (arith, h n, cover-entry tab p es n)))
 
-    one-parted : (es : List (List ℕ)) → RunsOk g tab es → ((n : ℕ) → S es n ≤ 1) → pairwise (partedIn tab) es ≡ true
+    pub one-parted : (es : List (List ℕ)) → RunsOk g tab es → ((n : ℕ) → S es n ≤ 1) → pairwise (partedIn tab) es ≡ true
     unfolding pairwise
     one-parted [] runs h = refl
     one-parted (p ∷ es) runs h =
