@@ -1,7 +1,8 @@
 // A fresh card: its sectors, built in buffers of zeros, and make.
 ghost use mathlib.Core.Path.{_≡_};
-ghost use Prim.Native.Nat.{_*_, _≤_, _<_};
+ghost use Prim.Native.Nat.{_+_, _*_, _≤_, _<_};
 ghost use lib.ListN.{length, replicate};
+ghost use Rattle.sectors.specs.Sectors.{setSec};
 ghost use Rattle.counts.specs.Geometry.{gP};
 ghost use Rattle.counts.specs.TableLaws.{InLimits, LaidOut};
 ghost use Rattle.apages.specs.Runs.{dataFrom, dataTo, freshPage};
@@ -119,16 +120,32 @@ fn fresh_pages(g: Geo, card: &mut [u8])
     }
 }
 
-// Makes a fresh card of an image as long as its geometry says.
+// Writes the transaction block.
+fn put_block(g: Geo, card: &mut [u8])
+    requires { ⌜ LaidOut g (now card) ⌝ }
+    ensures { λ _. ⌜ now (card .exit) ≡ setSec (now (card .entry)) 0 (blockBytes 0 g) ⌝ }
+{
+    let block = fresh_block(g);
+    sectors::write_sector(card, Sector(0), &block)
+}
+
+// Writes the index.
+fn put_index(g: Geo, card: &mut [u8])
+    requires { ⌜ LaidOut g (now card) ⌝ }
+    ensures { λ _. ⌜ now (card .exit) ≡ setSec (now (card .entry)) (g .t + 1) (freshIndex g) ⌝ }
+{
+    let index = fresh_index(g);
+    sectors::write_sector(card, Sector(g.t + 1), &index)
+}
+
+// Makes a fresh card of an image as long as its geometry says, with one sector's buffer at a time.
 pub fn make_in(g: Geo, card: &mut [u8])
     requires { ⌜ LaidOut g (now card) × (length (now card) ≡ 512 * g .s) ⌝ }
     ensures { λ _. ⌜ now (card .exit) ≡ freshCard g ⌝ }
 {
-    let block = fresh_block(g);
-    let index = fresh_index(g);
     clear(card);
-    sectors::write_sector(card, Sector(0), &block);
-    sectors::write_sector(card, Sector(g.t + 1), &index);
+    put_block(g, card);
+    put_index(g, card);
     fresh_pages(g, card)
 }
 
