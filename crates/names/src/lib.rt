@@ -1,10 +1,11 @@
 // Names: when one is good, and when an entry has it.
 ghost use mathlib.Core.Path.{_≡_};
-ghost use Prim.Native.Nat.{_+_, min};
+ghost use Prim.Native.Nat.{_+_, _*_, _%_, _<_, min};
 ghost use lib.ListN.{length};
 ghost use Rattle.words.specs.Lists.{every, eqList};
 ghost use Rattle.words.specs.Bytes.{wordAt};
 ghost use Rattle.entries.specs.Entries.{goodByte, goodName, nameOf, nameOk};
+ghost use Rattle.names.specs.Hash.{hashStep, hashOf};
 
 // ---- names
 
@@ -27,7 +28,13 @@ pub fn good_bytes(s: &[u8]) -> bool
 pub fn good_name(n: &[u8]) -> bool
     ensures { λ r. ⌜ r ≡ goodName (now (n .entry)) ⌝ }
 {
-    (1 <= n.len()) & (n.len() <= 32) & good_bytes(n)
+    if n.len() < 1 {
+        return false;
+    }
+    if 32 < n.len() {
+        return false;
+    }
+    good_bytes(n)
 }
 
 // Whether the first n of an entry's name bytes are a good name and the others are 0.
@@ -74,4 +81,42 @@ pub fn has_name(n: &[u8], p: &[u8]) -> bool
 {
     let b = name_end(p);
     words::same(n, &p[12..b])
+}
+
+// ---- the hash of a name
+
+// A product modulo 2 to the 32, through 64-bit numbers.
+fn times_factor(x: u32) -> u32
+    ensures { λ r. ⌜ r ≡ x * 16777619 % 4294967296 ⌝ }
+{
+    ((x as u64) * 16777619 % 4294967296) as u32
+}
+
+// The hash with one byte more.
+fn hash_step(h: u32, b: u8) -> u32
+    ensures { λ r. ⌜ r ≡ hashStep h b ⌝ }
+{
+    times_factor(h ^ (b as u32))
+}
+
+// "The hash is 32-bit FNV-1a", over the bytes of a name.
+pub fn hash(n: &[u8]) -> u32
+    ensures { λ r. ⌜ r ≡ hashOf (now (n .entry)) ⌝ }
+{
+    let mut h: u32 = 2166136261;
+    let mut i = 0;
+    while i < n.len() {
+        h = hash_step(h, n[i]);
+        i += 1;
+    }
+    h
+}
+
+// The hash of an entry's name.
+pub fn hash_at(p: &[u8]) -> u32
+    requires { ⌜ length (now p) ≡ 128 ⌝ }
+    ensures { λ r. ⌜ r ≡ hashOf (nameOf (now (p .entry))) ⌝ }
+{
+    let b = name_end(p);
+    hash(&p[12..b])
 }
