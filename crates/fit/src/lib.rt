@@ -17,8 +17,8 @@ fn table_fits(s: Opened, work: &[u8]) -> bool
     let t = s.t;
     let head = agree::head_ok(s, work);
     let word = agree::word_ok(s.worn, t, counts::table_word(work, g, c));
-    let max = table::table_max(work, g);
     let past = table::zero_past(work, g, c);
+    let max = table::table_max(work, g, c, past);
     head & word & max & past
 }
 

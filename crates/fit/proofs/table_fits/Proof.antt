@@ -14,15 +14,15 @@ table-word-requires c κs = search needs
 word-ok-requires : tie.Need-word-ok-requires
 word-ok-requires c κs = search needs
 
-table-max-requires : tie.Need-table-max-requires
-table-max-requires c κs = search needs
-
 zero-past-requires : tie.Need-zero-past-requires
 zero-past-requires c κs = search needs
 
+table-max-requires : tie.Need-table-max-requires
+table-max-requires c κs = search needs
+
 returns : tie.Need-returns
 unfolding tableFits cutTable
-returns c = rw (c .before .before .before .before .head-ok .ensures, c .before .before .word-ok .ensures, c .before .before .before .table-word .ensures, c .before .table-max .ensures, c .zero-past .ensures)
+returns c = rw (c .before .before .before .before .head-ok .ensures, c .before .before .word-ok .ensures, c .before .before .before .table-word .ensures, c .table-max .ensures, c .before .zero-past .ensures)
 
 pub table-fits-spec : {M : Type 1} → statement M
 table-fits-spec =
@@ -31,6 +31,6 @@ table-fits-spec =
     head-ok-requires
     table-word-requires
     word-ok-requires
-    table-max-requires
     zero-past-requires
+    table-max-requires
     returns)

@@ -1,14 +1,14 @@
--- `counts::table_ok` meets its contract: straight. Assumes nothing.
+-- Straight. Assumes nothing.
 use borrow.Author.Needs.{needs}
 use Rattle.counts.specs.Stamps.{tableOk}
 use Rattle.table.proofs.table_ok.Statement.{statement}
 use Rattle.table.proofs.table_ok.Tie as tie
 
-table-max-requires : tie.Need-table-max-requires
-table-max-requires c κs = search needs
-
 zero-past-requires : tie.Need-zero-past-requires
 zero-past-requires c κs = search needs
+
+table-max-requires : tie.Need-table-max-requires
+table-max-requires c κs = search needs
 
 word-below-requires : tie.Need-word-below-requires
 word-below-requires c κs = search needs
@@ -19,4 +19,4 @@ returns c = cc
 
 pub table-ok-spec : {M : Type 1} → statement M
 table-ok-spec =
-    tie.close (tie.spec table-max-requires zero-past-requires word-below-requires returns)
+    tie.close (tie.spec zero-past-requires table-max-requires word-below-requires returns)
