@@ -227,7 +227,7 @@ fn a_cut_in_sync_shows_the_earlier_files_until_the_table_sector() {
         assert_eq!(count, writes, "at place {k}");
         earlier_or_new(&card, false);
     }
-    for k in [11, 12, u32::MAX] {
+    for k in [11, 12, 13, 99] {
         let (count, card) = host.sync_steps(k).expect("sync is taken");
         assert_eq!(count, 6);
         earlier_or_new(&card, true);

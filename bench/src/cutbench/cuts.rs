@@ -51,6 +51,7 @@ impl World<'_> {
     /// nor for the unmount of a worn session.
     pub(super) fn steps_of(&self, call: Cuttable, k: u32) -> Outcome<Vec<Step>> {
         let end = self.before_barrier(call);
+        let k = k.min(end.saturating_add(4));
         let Some(first) = self.left_after(call, k.min(end))? else {
             return Ok(Vec::new());
         };
