@@ -4,6 +4,15 @@
 use crate::host::{self, Answer, Goal, ReportBytes, RoomBytes, SessionBytes};
 use crate::plain::{self, steps, Line, Session};
 
+/// What a driver lands before what follows a barrier.
+#[derive(Clone, Copy, Debug, PartialEq, Eq)]
+pub enum Driver {
+    /// Everything that was written, as it must.
+    FlushesAll,
+    /// What the call itself wrote, and nothing of earlier lands.
+    FlushesOwn,
+}
+
 /// A store as a host sees it. The numbers are those of the paper's table, and
 /// a session is its six words.
 pub trait Store: Sync {
@@ -51,6 +60,10 @@ pub trait Store: Sync {
     /// Fills the first lines with a session's present files and counts them.
     fn list(&self, session: &SessionBytes, work: &[u8], lines: &mut [Line]) -> Answer;
 
+    /// What the driver between card and flash flushes at a barrier.
+    fn driver(&self) -> Driver {
+        Driver::FlushesAll
+    }
     /// A mount as far as place k.
     fn mount_steps(&self, card: &mut [u8], work: &[u8], k: u32) -> u32;
     /// A sync as far as place k, with the sectors written by then.

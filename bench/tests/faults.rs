@@ -119,6 +119,19 @@ fn comparing_finds_every_wrong_byte_and_number() {
     }
 }
 
+/// The store writes what it should and every byte agrees: a sector that a land
+/// brought to the card before is not flushed, and the cuts tell (docs/DRIVER.md,
+/// point 5).
+#[test]
+fn a_driver_that_flushes_only_the_syncs_own_writes_is_found() {
+    let wrong = Wrong::FlushesOwn;
+    let small = found(Pair(&wrong, &wrong));
+    assert!(small.what.starts_with("a card "), "{}", small.what);
+    assert!(has_cut(&small.history));
+    let lands = |op: &Op| matches!(op, Op::Land(_));
+    assert!(small.history.iter().any(lands));
+}
+
 /// Beside themselves: the cuts, the free figures, the outputs full of rubbish and
 /// the bound on the sectors written tell.
 #[test]

@@ -3,7 +3,8 @@
 use crate::dice::Dice;
 use crate::plain::steps::Step;
 use crate::plain::SECTOR;
-use std::collections::BTreeMap;
+use crate::store::Driver;
+use std::collections::{BTreeMap, BTreeSet};
 
 /// The values written to a sector since the latest moment, the newest last; no
 /// value twice, and more than one.
@@ -15,14 +16,19 @@ type Values = Vec<Box<[u8]>>;
 pub struct Choices {
     card: Vec<u8>,
     unsettled: BTreeMap<usize, Values>,
+    /// The sectors that steps have written since the latest barrier.
+    own: BTreeSet<usize>,
+    driver: Driver,
 }
 
 impl Choices {
     /// A card on which everything has landed.
-    pub fn settled(card: &[u8]) -> Choices {
+    pub fn settled(card: &[u8], driver: Driver) -> Choices {
         Choices {
             card: card.to_vec(),
             unsettled: BTreeMap::new(),
+            own: BTreeSet::new(),
+            driver,
         }
     }
 
@@ -55,15 +61,25 @@ impl Choices {
         }
     }
 
-    /// Does a step of a call: a write may land, a barrier lands the newest.
+    /// Does a step of a call: a write may land, a barrier lands the newest of
+    /// what the driver flushes.
     pub fn step(&mut self, step: &Step) {
         match step {
-            Step::Write { sector, content } => self.written(*sector as usize, &content[..]),
+            Step::Write { sector, content } => {
+                self.own.insert(*sector as usize);
+                self.written(*sector as usize, &content[..]);
+            }
             Step::Barrier => {
-                for (sector, values) in &self.unsettled {
-                    put(&mut self.card, *sector, &values[values.len() - 1]);
-                }
-                self.unsettled.clear();
+                let (all, own) = (self.driver == Driver::FlushesAll, &self.own);
+                let card = &mut self.card;
+                self.unsettled.retain(|sector, values| {
+                    let flushed = all || own.contains(sector);
+                    if flushed {
+                        put(card, *sector, &values[values.len() - 1]);
+                    }
+                    !flushed
+                });
+                self.own.clear();
             }
         }
     }
@@ -86,6 +102,7 @@ impl Choices {
     pub fn settle(&mut self, dice: &mut Dice) {
         self.pick(dice);
         self.unsettled.clear();
+        self.own.clear();
     }
 
     /// How many sectors have more than one value.

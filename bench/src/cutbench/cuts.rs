@@ -147,7 +147,7 @@ impl World<'_> {
             return Ok(());
         };
         let mut choices = if self.ends_session(call) {
-            Choices::settled(self.sides[0].card.bytes())
+            Choices::settled(self.sides[0].card.bytes(), self.stores[0].driver())
         } else {
             track.choices.clone()
         };
@@ -180,8 +180,9 @@ impl World<'_> {
     pub(super) fn cut_in(&mut self, call: Cuttable, places: usize, seed: u64) -> Outcome {
         let list = self.steps_of(call, u32::try_from(places).unwrap_or(u32::MAX))?;
         if self.ends_session(call) {
-            let card = self.sides[0].card.bytes();
-            self.track = self.track.take().map(|t| Track::settled(card, t.shown));
+            let (card, driver) = (self.sides[0].card.bytes(), self.stores[0].driver());
+            let track = self.track.take();
+            self.track = track.map(|t| Track::settled(card, t.shown, driver));
         }
         self.cut_after(&list, seed)
     }

@@ -7,7 +7,9 @@ use super::op::Cuttable;
 use super::summary::Call;
 use super::world::{Outcome, World};
 use crate::host::{Answer, Goal};
+use crate::plain::steps::Step;
 use crate::plain::{Session, DONE, NO_ROOM, NO_SECTOR, PAGE_SECTORS, SECTOR};
+use crate::store::Driver;
 use std::ops::RangeInclusive;
 
 /// What is known of a history.
@@ -25,13 +27,24 @@ pub struct Track {
 
 impl Track {
     /// Everything has landed and these files are shown.
-    pub fn settled(card: &[u8], files: Files) -> Track {
+    pub fn settled(card: &[u8], files: Files, driver: Driver) -> Track {
         Track {
-            choices: Choices::settled(card),
+            choices: Choices::settled(card, driver),
             shown: files.clone(),
             present: files,
             changes: 0,
         }
+    }
+
+    /// After a sync with these steps; where the driver flushes everything, all
+    /// has landed.
+    fn synced(mut self, card: &[u8], list: &[Step], driver: Driver) -> Track {
+        let mut after = Track::settled(card, self.present, driver);
+        if driver == Driver::FlushesOwn {
+            list.iter().for_each(|step| self.choices.step(step));
+            after.choices = self.choices;
+        }
+        after
     }
 
     /// The most sectors that a sync or an unmount of a card of S sectors may
@@ -71,7 +84,7 @@ impl World<'_> {
                 None => files_of(card).map_err(|n| format!("a mounted card is refused {n}"))?,
             };
             world.look(card, &[&files])?;
-            world.track = Some(Track::settled(card, files));
+            world.track = Some(Track::settled(card, files, world.stores[0].driver()));
             Ok(())
         })
     }
@@ -155,7 +168,11 @@ impl World<'_> {
     }
 
     pub(super) fn sync(&mut self) -> Outcome {
-        let bounds = self.bounds();
+        let (bounds, driver) = (self.bounds(), self.stores[0].driver());
+        let list = match driver {
+            Driver::FlushesAll => Vec::new(),
+            Driver::FlushesOwn => self.steps_of(Cuttable::Sync, u32::MAX)?,
+        };
         let mut answers = Vec::new();
         let mut counted = self.sides[0].clone();
         let number = self.call(Call::Sync, |store, side| {
@@ -178,7 +195,7 @@ impl World<'_> {
         match self.track.take() {
             Some(track) if number == DONE => self.with_card(|world, card| {
                 world.look(card, &[&track.present])?;
-                world.track = Some(Track::settled(card, track.present));
+                world.track = Some(track.synced(card, &list, driver));
                 Ok(())
             }),
             track => {

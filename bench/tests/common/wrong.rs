@@ -3,7 +3,7 @@
 use crate::paged;
 use bench::host::{Answer, Goal, ReportBytes, RoomBytes, SessionBytes};
 use bench::plain::{self, set_word, word, Geometry, Line, Room, Session, PAGE_SECTORS, SECTOR};
-use bench::store::{Plain, Store};
+use bench::store::{Driver, Plain, Store};
 use std::borrow::Cow;
 use std::ops::Range;
 
@@ -26,6 +26,8 @@ pub enum Wrong {
     MakesUpFree,
     /// Mount says 0 where it should say 2.
     Says2As0,
+    /// The store is right, and its driver flushes only what a sync itself wrote.
+    FlushesOwn,
     /// Remove leaves no old version, so that a cut shows the file no more.
     RemovesOld,
     /// Remove leaves the bits of the sectors set.
@@ -248,6 +250,13 @@ impl Store for Wrong {
         self.wrong_list(lines, |lines| {
             Plain.list(session, &self.judged(work), lines)
         })
+    }
+
+    fn driver(&self) -> Driver {
+        match self {
+            Wrong::FlushesOwn => Driver::FlushesOwn,
+            _ => Driver::FlushesAll,
+        }
     }
 
     fn mount_steps(&self, card: &mut [u8], work: &[u8], k: u32) -> u32 {
