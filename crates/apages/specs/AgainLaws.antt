@@ -18,7 +18,7 @@ use Rattle.counts.specs.declared.View.{View}
 use Rattle.counts.specs.Geometry.{gP}
 use Rattle.counts.specs.GeoLaws.{table-same}
 use Rattle.counts.specs.TableLaws.{LaidOut, pages-few, dir-is}
-use Rattle.counts.specs.Stamps.{standing, tableIn, becomesOld}
+use Rattle.counts.specs.Stamps.{standing, tableIn}
 use Rattle.apages.specs.declared.Index.{Index}
 use Rattle.apages.specs.Index.{indexOf, groupBytes, groupOf, indexIn, pairOk, changedIndex, pageBefore, changeRun, changeBits}
 use Rattle.apages.specs.IndexLaws.{group-a, group-b}
@@ -30,7 +30,7 @@ use Rattle.apages.specs.ChangeLaws.{bits-both}
 -- A and B trade places or stay
 changed-pair : (g : Geo) (p : ℕ) (st : Standing) (own : Stamp) (x : Index) → pairOk g p (x .a .0) (x .b .0) ≡ true
     → pairOk g p (changedIndex st own x .a .0) (changedIndex st own x .b .0) ≡ true
-unfolding changedIndex becomesOld
+unfolding changedIndex
 changed-pair g p Own own x h = h
 changed-pair g p Alive own x h = pair-swap g p (x .a .0) (x .b .0) h
 changed-pair g p Dead own x h = h

@@ -27,8 +27,8 @@ use Rattle.apages.specs.IndexViews.{IdxSame, idx-refl, IndexSame, index-
 
 module _ (g : Geo) (L : Limits g) (tab : List ℕ) (own : Stamp) (cN : own .cc .0 < gN g) (tM : own .txc .0 ≤ maxTx)
     (hc : own .cc .0 < length tab) (hw : getD tab (own .cc .0) 0 + 1 ≡ own .txc .0) where
-  abbrev now : List ℕ
-  now = set tab (own .cc .0) (own .txc .0)
+  abbrev present : List ℕ
+  present = set tab (own .cc .0) (own .txc .0)
 
   -- ---- n + 1 sectors from a on, all in page a / 4096
 
@@ -43,21 +43,21 @@ module _ (g : Geo) (L : Limits g) (tab : List ℕ) (own : Stamp) (cN : own .cc .
     x = groupOf ix p
 
     abbrev next : Index
-    next = changedIndex (standing now own (indexOf x .stamp)) own (indexOf x)
+    next = changedIndex (standing present own (indexOf x .stamp)) own (indexOf x)
 
     abbrev after : List ℕ
-    after = changeRun g now own a (suc n) v img
+    after = changeRun g present own a (suc n) v img
 
     wide : length ix ≡ 512
     unfolding indexIn
     wide = sec-in img (g .s) (g .t + 1) (P .sized) (omega (arith, L .past, L .dir, L .sLow))
 
-    was : pageBefore (standing now own (indexOf x .stamp)) next ≡ shownPage now x
+    was : pageBefore (standing present own (indexOf x .stamp)) next ≡ shownPage present x
     was = before-shown g p small tab own hc hw x (P .stamps p small) (P .pair p small)
 
-    page : length (sec img (pageBefore (standing now own (indexOf x .stamp)) next)) ≡ 512
+    page : length (sec img (pageBefore (standing present own (indexOf x .stamp)) next)) ≡ 512
     unfolding pageAt
-    page = rw was (paired-wide g L own img now P p small)
+    page = rw was (paired-wide g L own img present P p small)
 
     span : (g .t + 2 + 2 * p ≤ next .a .0) × (next .a .0 ≤ g .t + 3 + 2 * p)
     span = between g p small tab own hc hw x (P .stamps p small) (P .pair p small)
@@ -69,10 +69,10 @@ module _ (g : Geo) (L : Limits g) (tab : List ℕ) (own : Stamp) (cN : own .cc .
     room = omega (arith, P .sized, L .past, L .dir, L .sLow)
 
     run-length : length after ≡ length img
-    run-length = bits-length g now own a n v img ix refl wide page
+    run-length = bits-length g present own a n v img ix refl wide page
 
     run-other : (i : ℕ) → i ≢ g .t + 1 → i ≢ next .a .0 → sec after i ≡ sec img i
-    run-other = bits-other g now own a n v img ix refl wide page
+    run-other = bits-other g present own a n v img ix refl wide page
 
     -- a page of the index that is not A after the change
     page-other : (i : ℕ) → g .t + 2 ≤ i → i ≢ next .a .0 → sec after i ≡ sec img i
@@ -80,11 +80,11 @@ module _ (g : Geo) (L : Limits g) (tab : List ℕ) (own : Stamp) (cN : own .cc .
 
     here : groupOf (indexIn g (sec after)) p ≡ groupBytes next
     unfolding indexIn
-    here = group-here g now own a n v img ix refl wide page off room (omega (arith, L .few))
+    here = group-here g present own a n v img ix refl wide page off room (omega (arith, L .few))
 
     there : (q : ℕ) → q ≢ p → groupOf (indexIn g (sec after)) q ≡ groupOf ix q
     unfolding indexIn
-    there q o = group-there g now own a n v img ix refl wide page off room q o
+    there q o = group-there g present own a n v img ix refl wide page off room q o
 
     same-at : (q : ℕ) → q < gP g → Dec (q ≡ p) → IdxSame g q tab own (groupOf ix q) (groupOf (indexIn g (sec after)) q)
     same-at q l (yes e) =
@@ -93,7 +93,7 @@ module _ (g : Geo) (L : Limits g) (tab : List ℕ) (own : Stamp) (cN : own .cc .
 
     index-is : indexIn g (sec after) ≡ setPart 16 ix p (groupBytes next)
     unfolding indexIn
-    index-is = index-now g now own a n v img ix refl wide page off room
+    index-is = index-now g present own a n v img ix refl wide page off room
 
     rest : every isZero (drop (16 * gP g) (indexIn g (sec after))) ≡ every isZero (drop (16 * gP g) ix)
     unfolding setPart
@@ -114,15 +114,15 @@ module _ (g : Geo) (L : Limits g) (tab : List ℕ) (own : Stamp) (cN : own .cc .
     low : (q : ℕ) (t : List ℕ) → q < gP g → g .t + 2 ≤ shownPage t (groupOf ix q)
     low q t l = let r = shown-range g q t (groupOf ix q) (P .pair q l) in omega (arith, r .0)
 
-    page-there : (q : ℕ) → q < gP g → q ≢ p → pageAt g now (sec after) q ≡ pageAt g now (sec img) q
+    page-there : (q : ℕ) → q < gP g → q ≢ p → pageAt g present (sec after) q ≡ pageAt g present (sec img) q
     unfolding pageAt
-    page-there q l o = rw (there q o) (page-other (shownPage now (groupOf ix q)) (low q now l) (pages-apart q now l o))
+    page-there q l o = rw (there q o) (page-other (shownPage present (groupOf ix q)) (low q present l) (pages-apart q present l o))
 
-    page-here : pageAt g now (sec after) p ≡ setRun (pageAt g now (sec img) p) (a % 4096) (suc n) v
+    page-here : pageAt g present (sec after) p ≡ setRun (pageAt g present (sec img) p) (a % 4096) (suc n) v
     unfolding pageAt
     page-here =
         rw (here, now-page g p small tab own hc hw x (P .stamps p small) (P .pair p small) L cN tM)
-        (bits-page g now own a n v img ix refl wide page (omega (arith, span .1, P .sized, L .dirIs, L .dir, L .sLow)) ∙ ap (λ (i : ℕ). setRun (sec img i) (a % 4096) (suc n) v) was)
+        (bits-page g present own a n v img ix refl wide page (omega (arith, span .1, P .sized, L .dirIs, L .dir, L .sLow)) ∙ ap (λ (i : ℕ). setRun (sec img i) (a % 4096) (suc n) v) was)
 
     run-some : Remapped g tab own (λ m. setRun m a (suc n) v) (λ q. (0 < suc n) × (q ≡ a / 4096)) img after
     run-some =
@@ -145,12 +145,12 @@ module _ (g : Geo) (L : Limits g) (tab : List ℕ) (own : Stamp) (cN : own .cc .
               };
           map =
               let e : 4096 * p + a % 4096 ≡ a = omega arith in
-              rw e at (map-set g now (sec img) (sec after) p (a % 4096) (suc n) v fits (paired-wide g L own img now P) small page-there page-here);
+              rw e at (map-set g present (sec img) (sec after) p (a % 4096) (suc n) v fits (paired-wide g L own img present P) small page-there page-here);
         }
 
   -- ---- any run of one page; none changes nothing
 
-  pub run-changed : (a n v : ℕ) (img : List ℕ) → Paired g own img → a % 4096 + n ≤ 4096 → (0 < n → a < 4096 * gP g) → Remapped g tab own (λ m. setRun m a n v) (λ q. (0 < n) × (q ≡ a / 4096)) img (changeRun g now own a n v img)
+  pub run-changed : (a n v : ℕ) (img : List ℕ) → Paired g own img → a % 4096 + n ≤ 4096 → (0 < n → a < 4096 * gP g) → Remapped g tab own (λ m. setRun m a n v) (λ q. (0 < n) × (q ≡ a / 4096)) img (changeRun g present own a n v img)
   unfolding changeRun setRun
   run-changed a zero v img P fits small =
       record { paired = P; index = index-refl g tab own _; stamped = λ q l w. absurd (omega (arith, w .0)); cut = λ q l. refl; other = λ i o z. refl; pairs = λ q l o. record { group = refl; first = refl; second = refl }; map = refl }
@@ -158,8 +158,8 @@ module _ (g : Geo) (L : Limits g) (tab : List ℕ) (own : Stamp) (cN : own .cc .
 
   -- "Changing the bitmap": k sectors from a on set, then m from b on cleared
   pub bits-changed : (a k b m : ℕ) (img : List ℕ) → Paired g own img → a % 4096 + k ≤ 4096 → (0 < k → a < 4096 * gP g) → b % 4096 + m ≤ 4096 → (0 < m → b < 4096 * gP g)
-      → Remapped g tab own (λ p. setRun (setRun p a k 1) b m 0) (λ q. ((0 < k) × (q ≡ a / 4096)) ⊎ ((0 < m) × (q ≡ b / 4096))) img (changeBits g now own a k b m img)
+      → Remapped g tab own (λ p. setRun (setRun p a k 1) b m 0) (λ q. ((0 < k) × (q ≡ a / 4096)) ⊎ ((0 < m) × (q ≡ b / 4096))) img (changeBits g present own a k b m img)
   unfolding changeBits
   bits-changed a k b m img P fa sa fb sb =
       let A = run-changed a k 1 img P fa sa in
-      remapped-then g tab own A (run-changed b m 0 (changeRun g now own a k 1 img) (A .paired) fb sb)
+      remapped-then g tab own A (run-changed b m 0 (changeRun g present own a k 1 img) (A .paired) fb sb)

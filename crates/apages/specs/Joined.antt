@@ -15,14 +15,15 @@ use Rattle.sectors.specs.FlatLaws.{sec-in}
 use Rattle.counts.specs.declared.Geo.{Geo}
 use Rattle.counts.specs.declared.Stamp.{Stamp}
 use Rattle.counts.specs.declared.Standing.{Standing}
-use Rattle.counts.specs.declared.Standing.the-variants.{Own}
+use Rattle.counts.specs.declared.Standing.the-variants.{Own, Alive, Dead}
 use Rattle.counts.specs.Geometry.{gN, gP}
 use Rattle.counts.specs.GeoLaws.{Limits}
-use Rattle.counts.specs.Stamps.{maxTx, sameStamp, standing, becomesOld}
+use Rattle.counts.specs.Stamps.{maxTx, sameStamp, standing}
 use Rattle.apages.specs.declared.Index.{Index}
 use Rattle.apages.specs.Bits.{setRun}
 use Rattle.apages.specs.RunLaws.{setRun-length}
 use Rattle.apages.specs.Index.{indexOf, groupBytes, groupOf, indexIn, pageAt, changedIndex, pageBefore, changedRun, changeRun}
+use Rattle.apages.specs.IndexLaws.{changed-stamp}
 use Rattle.apages.specs.PageLaws.{setSec-twice}
 use Rattle.apages.specs.FrameLaws.{bits-page, group-here}
 use Rattle.apages.specs.IndexViews.{before-shown, between, read-back}
@@ -34,14 +35,16 @@ own-stands tab own = rw (join _ _ (eq-eqb (own .cc .0) (own .cc .0) refl) (eq-eq
 
 -- a group under the session's own stamp stays as it is
 own-index : (st : Standing) (own : Stamp) (x : Index) → changedIndex Own own (changedIndex st own x) ≡ changedIndex st own x
-unfolding changedIndex becomesOld
-own-index st own x = refl
+unfolding changedIndex
+own-index Own own x = refl
+own-index Alive own x = refl
+own-index Dead own x = refl
 
 module _ (g : Geo) (L : Limits g) (tab : List ℕ) (own : Stamp) (cN : own .cc .0 < gN g) (tM : own .txc .0 ≤ maxTx)
     (hc : own .cc .0 < length tab) (hw : getD tab (own .cc .0) 0 + 1 ≡ own .txc .0)
     (a k v b m w : ℕ) (img : List ℕ) (P : Paired g own img) (small : a / 4096 < gP g) (alike : b / 4096 ≡ a / 4096) where
-  abbrev now : List ℕ
-  now = set tab (own .cc .0) (own .txc .0)
+  abbrev present : List ℕ
+  present = set tab (own .cc .0) (own .txc .0)
 
   abbrev ix : List ℕ
   ix = indexIn g (sec img)
@@ -50,13 +53,13 @@ module _ (g : Geo) (L : Limits g) (tab : List ℕ) (own : Stamp) (cN : own .cc .
   x = groupOf ix (a / 4096)
 
   abbrev st : Standing
-  st = standing now own (indexOf x .stamp)
+  st = standing present own (indexOf x .stamp)
 
   abbrev y : Index
   y = changedIndex st own (indexOf x)
 
   abbrev first : List ℕ
-  first = changeRun g now own a (suc k) v img
+  first = changeRun g present own a (suc k) v img
 
   wide : length ix ≡ 512
   unfolding indexIn
@@ -64,7 +67,7 @@ module _ (g : Geo) (L : Limits g) (tab : List ℕ) (own : Stamp) (cN : own .cc .
 
   page : length (sec img (pageBefore st y)) ≡ 512
   unfolding pageAt
-  page = rw (before-shown g (a / 4096) small tab own hc hw x (P .stamps (a / 4096) small) (P .pair (a / 4096) small)) (paired-wide g L own img now P (a / 4096) small)
+  page = rw (before-shown g (a / 4096) small tab own hc hw x (P .stamps (a / 4096) small) (P .pair (a / 4096) small)) (paired-wide g L own img present P (a / 4096) small)
 
   span : (g .t + 2 + 2 * (a / 4096) ≤ y .a .0) × (y .a .0 ≤ g .t + 3 + 2 * (a / 4096))
   span = between g (a / 4096) small tab own hc hw x (P .stamps (a / 4096) small) (P .pair (a / 4096) small)
@@ -77,7 +80,7 @@ module _ (g : Geo) (L : Limits g) (tab : List ℕ) (own : Stamp) (cN : own .cc .
 
   there : groupOf (indexIn g (sec first)) (a / 4096) ≡ groupBytes y
   unfolding indexIn
-  there = group-here g now own a k v img ix refl wide page off room (omega (arith, L .few))
+  there = group-here g present own a k v img ix refl wide page off room (omega (arith, L .few))
 
   again : indexOf (groupOf (indexIn g (sec first)) (b / 4096)) ≡ y
   again = rw (alike, there) (read-back g (a / 4096) small tab own hc hw x (P .stamps (a / 4096) small) (P .pair (a / 4096) small) L cN tM)
@@ -91,24 +94,23 @@ module _ (g : Geo) (L : Limits g) (tab : List ℕ) (own : Stamp) (cN : own .cc .
 
   at-a : sec first (y .a .0) ≡ new
   unfolding new
-  at-a = bits-page g now own a k v img ix refl wide page (omega (arith, span .1, P .sized, L .dirIs, L .dir, L .sLow))
+  at-a = bits-page g present own a k v img ix refl wide page (omega (arith, span .1, P .sized, L .dirIs, L .dir, L .sLow))
 
   stamp-own : y .stamp ≡ own
-  unfolding changedIndex
-  stamp-own = refl
+  stamp-own = changed-stamp st own (indexOf x)
 
-  second : changeRun g now own b (suc m) w first ≡ changedRun g Own y b (suc m) w first
+  second : changeRun g present own b (suc m) w first ≡ changedRun g Own y b (suc m) w first
   unfolding changeRun
   second =
-      ap (λ (i : Index). changedRun g (standing now own (i .stamp)) (changedIndex (standing now own (i .stamp)) own i) b (suc m) w first) again
-      ∙ ap (λ (s : Standing). changedRun g s (changedIndex s own y) b (suc m) w first) (ap (λ (s : Stamp). standing now own s) stamp-own ∙ own-stands now own)
+      ap (λ (i : Index). changedRun g (standing present own (i .stamp)) (changedIndex (standing present own (i .stamp)) own i) b (suc m) w first) again
+      ∙ ap (λ (s : Standing). changedRun g s (changedIndex s own y) b (suc m) w first) (ap (λ (s : Stamp). standing present own s) stamp-own ∙ own-stands present own)
       ∙ ap (λ (i : Index). changedRun g Own i b (suc m) w first) (own-index st own (indexOf x))
 
   still : setSec first (g .t + 1) (indexIn g (sec first)) ≡ first
   unfolding indexIn
   still = setSec-own first (g .t + 1)
 
-  pub runs-joined : changeRun g now own b (suc m) w first
+  pub runs-joined : changeRun g present own b (suc m) w first
       ≡ setSec (setSec img (g .t + 1) (setPart 16 ix (a / 4096) (groupBytes y))) (y .a .0) (setRun (setRun (sec img (pageBefore st y)) (a % 4096) (suc k) v) (b % 4096) (suc m) w)
   unfolding changedRun pageBefore new
   runs-joined =

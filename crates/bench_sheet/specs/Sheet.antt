@@ -22,11 +22,11 @@ use Rattle.card.specs.Sound.{viewOk, soundIn, shapeOk, sound}
 use Rattle.card.specs.Make.{blockBytes, freshGroup, freshGroups, freshIndex, freshPages, freshCard, makePlan, make}
 use Rattle.card.specs.Reading.{filesIn, filesShown, pageShown, readPlan, read, readList, readGet}
 use Rattle.session.specs.Views.{ownStamp, presentView, presentTable, cutTable, presentPage, cutPage, presentFiles, sessionFiles}
-use Rattle.session.specs.Fits.{sizesOk, headOk, wordOk, stampAtMost, entryAtMost, groupAtMost, indexAtMost, fitsIn, fits}
+use Rattle.session.specs.Fits.{sizesOk, headOk, wordOk, stampAtMost, entryAtMost, groupAtMost, indexAtMost, tableFits, viewsFit, stampsFit, fitsIn, fits}
 use Rattle.store.specs.Steps.{setCount, setWord, tableSector, mountSteps, syncSteps, atTop, downSteps, unmountStepsBy, unmountSteps, countedBy, unmountCount, syncWork, downWork, unmountWorkBy, unmountWork}
 use Rattle.store.specs.Mount.{mountPlan, openedFrom, mountDone, mount}
 use Rattle.store.specs.Edit.{orElse, putPlace, placeIn, runIn, putPlan, putContent, editWork, putRun, putWork, put, removePlan, removeWork, remove, putAt}
-use Rattle.store.specs.Look.{get, list, noFigures, figures, free}
+use Rattle.store.specs.Look.{get, listTests, list, noFigures, figures, free}
 use Rattle.store.specs.Sync.{bothPlan, land, grown, syncDone, sync, unmountDone, unmount}
 use Rattle.bench_sheet.specs.Acts.{Act, makes, mounts, puts, putsAt, removes, gets, frees, syncs, lands, unmounts, cuts, syncCuts, shows, reads, readsLine, refuses, counts, workCounts, sets, tops, stamps, sameLine, hasLine, isAnswer, isReport, isRoom, stepsDone, run, all}
 
@@ -50,11 +50,11 @@ unfoldable pub ten : List Act → List Act
 ten acts = makes 10 0 ∷ mounts 0 ∷ acts
 
 -- four synced files of 0 bytes
-unfoldable pub four : List Act → List Act
-four acts = makes 10 0 ∷ mounts 0 ∷ puts a 0 0 ∷ puts b 0 0 ∷ puts c 0 0 ∷ puts d 0 0 ∷ syncs 0 2 ∷ acts
+unfoldable pub fourFiles : List Act → List Act
+fourFiles acts = makes 10 0 ∷ mounts 0 ∷ puts a 0 0 ∷ puts b 0 0 ∷ puts c 0 0 ∷ puts d 0 0 ∷ syncs 0 2 ∷ acts
 
 unfoldable pub starred : List (List Act)
-unfolding ten four
+unfolding ten fourFiles
 starred =
     -- S = 6 is refused 1; S = 7 is made
     (makes 6 1 ∷ [])
@@ -71,8 +71,8 @@ starred =
     -- 0 bytes are stored with no room left
     ∷ ten (puts a 2048 0 ∷ frees 0 0 ∷ puts b 0 0 ∷ shows b 0 0 0 ∷ [])
     -- Four synced files of 0 bytes, one removed: a fifth name gets 7, and after a sync it is taken. Put instead of it, the removed name is taken at once
-    ∷ four (removes b 0 ∷ puts e 0 7 ∷ syncs 0 2 ∷ puts e 0 0 ∷ shows e 0 0 0 ∷ [])
-    ∷ four (removes b 0 ∷ puts b 0 0 ∷ shows b 0 0 0 ∷ [])
+    ∷ fourFiles (removes b 0 ∷ puts e 0 7 ∷ syncs 0 2 ∷ puts e 0 0 ∷ shows e 0 0 0 ∷ [])
+    ∷ fourFiles (removes b 0 ∷ puts b 0 0 ∷ shows b 0 0 0 ∷ [])
     -- C = 127: mount writes 128. After a cut mount gives 3, reading still shows the files
     ∷ ten (puts a 513 0 ∷ unmounts 0 6 ∷ counts 0 ∷ workCounts 0 ∷ sets 127 ∷ mounts 0 ∷ counts 128 ∷ cuts ∷ mounts 3 ∷ reads 128 1 2 ∷ readsLine a 513 6 2 ∷ [])
     -- Word C = 2,147,483,646: sync gives 0, then put gives 9; unmount leaves C + 1. Word C = 2,147,483,647 is refused 2
@@ -105,10 +105,10 @@ others =
 
 -- every starred line of the bench sheet holds
 pub sheet : all starred ≡ true
-unfolding all starred run sameLine hasLine isAnswer isReport stepsDone ten four inRun every pairwise firstAt eqList part over splice setPart pad wordAt words wordBytes sec setSec applySteps unless diffSteps writesIn gN gP gDir gF geoOk countOf geoOf tableFrom tableOf stampOf alive showing stampOk deadBelow tableOk tableIn asIs sameStamp standing becomesOld versionOf versionBytes newOf oldOf nameBytes entryOf entryRest entryBytes shownBytes shown goodName nameOf nameOk sectorsFor piecesOf pieceOk runOk versionOk entryOk changed sectorEntries entriesFrom entriesOf spotsFrom spotOf setEntry gone apart named bitAt putDigit putBit setRun bitsN bitsOf clearIn clearBits merge allClear findRun lowestRun runFor outside wanted bitsOk bytesToS pageOk dataFrom dataTo freshPage indexOf groupBytes groupOf everyGroup indexIn pairOk groupOk indexOk shownPage pageAt mapFrom pageIn changedIndex pageBefore changedRun changeRun changeBits guard need ended refused done consFile filesOf inPieces holdsAt cover piecesIn contentOf runOf runAt getPlan getEnd listPlan listEnd viewOk soundIn shapeOk sound blockBytes freshGroup freshGroups freshIndex freshPages freshCard makePlan make filesIn filesShown pageShown readPlan read readList readGet ownStamp presentView presentTable cutTable presentPage cutPage presentFiles sessionFiles sizesOk headOk wordOk stampAtMost entryAtMost groupAtMost indexAtMost fitsIn fits setCount setWord tableSector mountSteps syncSteps atTop downSteps unmountStepsBy unmountSteps countedBy unmountCount syncWork downWork unmountWorkBy unmountWork mountPlan openedFrom mountDone mount orElse putPlace placeIn runIn putPlan putContent editWork putRun putWork put removePlan removeWork remove get list free bothPlan land grown syncDone sync unmountDone unmount isRoom freeIn waits waitingIn noFigures figures runAfter goalRun putAt
+unfolding all starred run sameLine hasLine isAnswer isReport stepsDone ten fourFiles inRun every pairwise firstAt eqList part over splice setPart pad wordAt words wordBytes sec setSec applySteps unless diffSteps writesIn gN gP gDir gF geoOk countOf geoOf tableFrom tableOf stampOf alive showing stampOk deadBelow tableOk tableIn asIs sameStamp standing becomesOld versionOf versionBytes newOf oldOf nameBytes entryOf entryRest entryBytes shownBytes shown goodName nameOf nameOk sectorsFor piecesOf pieceOk runOk versionOk entryOk changed sectorEntries entriesFrom entriesOf spotsFrom spotOf setEntry gone apart named bitAt putDigit putBit setRun bitsN bitsOf clearIn clearBits merge allClear findRun lowestRun runFor outside wanted bitsOk bytesToS pageOk dataFrom dataTo freshPage indexOf groupBytes groupOf everyGroup indexIn pairOk groupOk indexOk shownPage pageAt mapFrom pageIn changedIndex pageBefore changedRun changeRun changeBits guard need ended refused done consFile filesOf inPieces holdsAt cover piecesIn contentOf runOf runAt getPlan getEnd listPlan listEnd viewOk soundIn shapeOk sound blockBytes freshGroup freshGroups freshIndex freshPages freshCard makePlan make filesIn filesShown pageShown readPlan read readList readGet ownStamp presentView presentTable cutTable presentPage cutPage presentFiles sessionFiles sizesOk headOk wordOk stampAtMost entryAtMost groupAtMost indexAtMost tableFits viewsFit stampsFit fitsIn fits setCount setWord tableSector mountSteps syncSteps atTop downSteps unmountStepsBy unmountSteps countedBy unmountCount syncWork downWork unmountWorkBy unmountWork mountPlan openedFrom mountDone mount orElse putPlace placeIn runIn putPlan putContent editWork putRun putWork put removePlan removeWork remove get listTests list free bothPlan land grown syncDone sync unmountDone unmount isRoom freeIn waits waitingIn noFigures figures runAfter goalRun putAt
 sheet = refl
 
 -- and so do these
 pub sheet-others : all others ≡ true
-unfolding all others run sameLine hasLine isAnswer isReport stepsDone ten four inRun every pairwise firstAt eqList part over splice setPart pad wordAt words wordBytes sec setSec applySteps unless diffSteps writesIn gN gP gDir gF geoOk countOf geoOf tableFrom tableOf stampOf alive showing stampOk deadBelow tableOk tableIn asIs sameStamp standing becomesOld versionOf versionBytes newOf oldOf nameBytes entryOf entryRest entryBytes shownBytes shown goodName nameOf nameOk sectorsFor piecesOf pieceOk runOk versionOk entryOk changed sectorEntries entriesFrom entriesOf spotsFrom spotOf setEntry gone apart named bitAt putDigit putBit setRun bitsN bitsOf clearIn clearBits merge allClear findRun lowestRun runFor outside wanted bitsOk bytesToS pageOk dataFrom dataTo freshPage indexOf groupBytes groupOf everyGroup indexIn pairOk groupOk indexOk shownPage pageAt mapFrom pageIn changedIndex pageBefore changedRun changeRun changeBits guard need ended refused done consFile filesOf inPieces holdsAt cover piecesIn contentOf runOf runAt getPlan getEnd listPlan listEnd viewOk soundIn shapeOk sound blockBytes freshGroup freshGroups freshIndex freshPages freshCard makePlan make filesIn filesShown pageShown readPlan read readList readGet ownStamp presentView presentTable cutTable presentPage cutPage presentFiles sessionFiles sizesOk headOk wordOk stampAtMost entryAtMost groupAtMost indexAtMost fitsIn fits setCount setWord tableSector mountSteps syncSteps atTop downSteps unmountStepsBy unmountSteps countedBy unmountCount syncWork downWork unmountWorkBy unmountWork mountPlan openedFrom mountDone mount orElse putPlace placeIn runIn putPlan putContent editWork putRun putWork put removePlan removeWork remove get list free bothPlan land grown syncDone sync unmountDone unmount isRoom freeIn waits waitingIn noFigures figures runAfter goalRun putAt
+unfolding all others run sameLine hasLine isAnswer isReport stepsDone ten fourFiles inRun every pairwise firstAt eqList part over splice setPart pad wordAt words wordBytes sec setSec applySteps unless diffSteps writesIn gN gP gDir gF geoOk countOf geoOf tableFrom tableOf stampOf alive showing stampOk deadBelow tableOk tableIn asIs sameStamp standing becomesOld versionOf versionBytes newOf oldOf nameBytes entryOf entryRest entryBytes shownBytes shown goodName nameOf nameOk sectorsFor piecesOf pieceOk runOk versionOk entryOk changed sectorEntries entriesFrom entriesOf spotsFrom spotOf setEntry gone apart named bitAt putDigit putBit setRun bitsN bitsOf clearIn clearBits merge allClear findRun lowestRun runFor outside wanted bitsOk bytesToS pageOk dataFrom dataTo freshPage indexOf groupBytes groupOf everyGroup indexIn pairOk groupOk indexOk shownPage pageAt mapFrom pageIn changedIndex pageBefore changedRun changeRun changeBits guard need ended refused done consFile filesOf inPieces holdsAt cover piecesIn contentOf runOf runAt getPlan getEnd listPlan listEnd viewOk soundIn shapeOk sound blockBytes freshGroup freshGroups freshIndex freshPages freshCard makePlan make filesIn filesShown pageShown readPlan read readList readGet ownStamp presentView presentTable cutTable presentPage cutPage presentFiles sessionFiles sizesOk headOk wordOk stampAtMost entryAtMost groupAtMost indexAtMost tableFits viewsFit stampsFit fitsIn fits setCount setWord tableSector mountSteps syncSteps atTop downSteps unmountStepsBy unmountSteps countedBy unmountCount syncWork downWork unmountWorkBy unmountWork mountPlan openedFrom mountDone mount orElse putPlace placeIn runIn putPlan putContent editWork putRun putWork put removePlan removeWork remove get listTests list free bothPlan land grown syncDone sync unmountDone unmount isRoom freeIn waits waitingIn noFigures figures runAfter goalRun putAt
 sheet-others = refl

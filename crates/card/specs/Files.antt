@@ -88,9 +88,9 @@ getEnd g tab img out p =
     ended p (λ k. record { answer = refused k; out = out })
     (λ j a. record { answer = done (runAt g tab img j .bytes); out = splice out 0 (contentOf img (runAt g tab img j)) })
 
--- "list .. 10"
-unfoldable pub listPlan : List Line → List Line → Plan
-listPlan files lines = guard 10 (leb (length files) (length lines)) (doIt 0 0)
+-- "list .. 10", for a lent table of `room` lines
+unfoldable pub listPlan : List Line → ℕ → Plan
+listPlan files room = guard 10 (leb (length files) room) (doIt 0 0)
 
 -- "List fills a lent table of lines, one line a file, in entry order ..; later lines stay."
 unfoldable pub listEnd : List Line → List Line → Plan → Listed

@@ -29,7 +29,6 @@ pub mod SoundTests
 pub mod ReadLaws
 pub mod OnePair
 pub mod OneChange
-pub mod PageTests
 pub mod Means
 pub mod MeansParts
 pub mod MeansBits

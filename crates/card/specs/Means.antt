@@ -99,7 +99,7 @@ ShowsFile tab p = shown tab p ≢ Absent
 abbrev pub Holds : List ℕ → List ℕ → ℕ → Type 0
 Holds tab p n = FileHolds (runOf (shown tab p)) n
 
--- a file that an entry shows "lies inside the data": all sectors that it holds do
+-- a file that an entry shows lies "inside the data": all sectors that it holds do
 abbrev pub Inside : Geo → List ℕ → List ℕ → Type 0
 Inside g tab p = (n : ℕ) → Holds tab p n → (gF g ≤ n) × (n < g .s)
 

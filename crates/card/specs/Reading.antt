@@ -38,7 +38,7 @@ read img =
 
 -- "its own list (1, 2, 10)"
 unfoldable pub readList : List ℕ → List Line → Listed
-readList img lines = listEnd (filesShown img) lines (readPlan img (listPlan (filesShown img) lines))
+readList img lines = listEnd (filesShown img) lines (readPlan img (listPlan (filesShown img) (length lines)))
 
 -- the line at a position (1, 2)
 unfoldable pub readLine : List ℕ → ℕ → Lined

@@ -64,8 +64,8 @@ module _ (g : Geo) (ok : geoOk g ≡ true) (count count′ : ℕ → ℕ) (p : L
   taken : (n : ℕ) → bitAt (setRun one b m 0) n + inRun b m n ≡ bitAt one n
   taken = clear-run one b m (omega (arith, one-length, roomy, L .covered)) set-there
 
-  now : (n : ℕ) → n < 4096 * gP g → bitAt (setRun one b m 0) n ≡ wanted g count′ n
-  now n l = go (in-data g n)
+  as-wanted : (n : ℕ) → n < 4096 * gP g → bitAt (setRun one b m 0) n ≡ wanted g count′ n
+  as-wanted n l = go (in-data g n)
     where
       go : Dec (InData g n) → bitAt (setRun one b m 0) n ≡ wanted g count′ n
       go (yes q) = omega (arith, taken n, added n, before n l, wanted-in g count n q, wanted-in g count′ n q, sum n)
@@ -84,5 +84,5 @@ module _ (g : Geo) (ok : geoOk g ≡ true) (count count′ : ℕ → ℕ) (p : L
   pub rule-kept : pageOk g count′ (setRun (setRun p a k 1) b m 0) ≡ true
   unfolding one
   rule-kept =
-      page-ok g count′ (setRun one b m 0) (omega (arith, setRun-length one b m 0, one-length, L .covered)) (λ n l. now n (omega (arith, few)))
+      page-ok g count′ (setRun one b m 0) (omega (arith, setRun-length one b m 0, one-length, L .covered)) (λ n l. as-wanted n (omega (arith, few)))
       (rw (run-rest one (bytesToS g) b m 0 (omega (arith, roomy, bytes-past g)), run-rest p (bytesToS g) a k 1 (omega (arith, fits, bytes-past g))) rest)

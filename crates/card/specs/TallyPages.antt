@@ -18,11 +18,12 @@ use Rattle.apages.specs.Ones.{setBits, allSet}
 use Rattle.apages.specs.OnesLaws.{set-clear}
 use Rattle.apages.specs.Index.{groupOf, indexIn, shownPage, pageAt, pageIn}
 use Rattle.apages.specs.MapLaws.{Wide, map-length, map-bytes, map-bit}
+use Rattle.apages.specs.PassLaws.{PairIn}
 use Rattle.apages.specs.PageSearch.{pages-wide}
 use Rattle.apages.specs.Runs.{pageOk}
 use Rattle.card.specs.Files.{filesOf, cover, sectorsOf}
 use Rattle.card.specs.CoverLaws.{RunsOk}
-use Rattle.card.specs.ViewLaws.{PairIn, lent, page-lent}
+use Rattle.card.specs.ViewLaws.{lent, page-lent}
 use Rattle.card.specs.Tally.{heldBy, partedIn, fixedBits}
 use Rattle.card.specs.TallyLaws.{tally-here}
 

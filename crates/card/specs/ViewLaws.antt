@@ -22,7 +22,7 @@ use Rattle.apages.specs.Bits.{bitsOf, clearIn, clearBits}
 use Rattle.apages.specs.Runs.{pageOk}
 use Rattle.apages.specs.RunLaws.{clear-most}
 use Rattle.apages.specs.Index.{groupOf, indexIn, pairOk, indexOk, shownPage, pageAt, mapFrom, pageIn}
-pub use Rattle.apages.specs.PassLaws.{PairIn}
+use Rattle.apages.specs.PassLaws.{PairIn}
 use Rattle.apages.specs.PassLaws.{index-inv, shown-before}
 use Rattle.apages.specs.ChangeLaws.{groupAt, group-lent}
 use Rattle.apages.specs.MapLaws.{clear-over}

@@ -47,11 +47,11 @@ unfolding sessionOf
 session-open state g c t h e = rw (ne-eqb state 0 h, e)
 
 -- the word of the four bytes from i on
-abbrev four : List ℕ → ℕ → ℕ → ℕ → ℕ → ℕ
-four b i j k l = join (getD b i 0) (getD b j 0) (getD b k 0) (getD b l 0)
+abbrev wordFrom : List ℕ → ℕ → ℕ → ℕ → ℕ → ℕ
+wordFrom b i j k l = join (getD b i 0) (getD b j 0) (getD b k 0) (getD b l 0)
 
-pub decoded-words : (b : List ℕ) {state s t d c x : ℕ} {r : Session} → state ≡ four b 0 1 2 3 → s ≡ four b 4 5 6 7 → t ≡ four b 8 9 10 11
-    → d ≡ four b 12 13 14 15 → c ≡ four b 16 17 18 19 → x ≡ four b 20 21 22 23 → r ≡ sessionOf state (geoWith s t d) c x → r ≡ decoded b
+pub decoded-words : (b : List ℕ) {state s t d c x : ℕ} {r : Session} → state ≡ wordFrom b 0 1 2 3 → s ≡ wordFrom b 4 5 6 7 → t ≡ wordFrom b 8 9 10 11
+    → d ≡ wordFrom b 12 13 14 15 → c ≡ wordFrom b 16 17 18 19 → x ≡ wordFrom b 20 21 22 23 → r ≡ sessionOf state (geoWith s t d) c x → r ≡ decoded b
 unfolding decoded
 decoded-words b h₀ h₁ h₂ h₃ h₄ h₅ e =
     e ∙ rw (wordAt-getD b 0, wordAt-getD b 4, wordAt-getD b 8, wordAt-getD b 12, wordAt-getD b 16, wordAt-getD b 20, h₀, h₁, h₂, h₃, h₄, h₅)

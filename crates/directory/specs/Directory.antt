@@ -18,7 +18,7 @@ unfoldable pub entriesFrom : ℕ → ℕ → Cells → List (List ℕ)
 entriesFrom i zero k = []
 entriesFrom i (suc n) k = sectorEntries (k i) ++ entriesFrom (suc i) n k
 
--- "T+2+2P to F−1: directory"
+-- sectors T+2+2P to F−1: "directory"
 unfoldable pub entriesOf : Geo → Cells → List (List ℕ)
 entriesOf g k = entriesFrom (gDir g) (g .d) k
 

@@ -38,7 +38,7 @@ oldOf p = take 16 (drop 60 p)
 unfoldable pub nameBytes : List ℕ → List ℕ
 nameBytes p = take 32 (drop 12 p)
 
--- "cc, txc, name length, 8 words of name bytes, the new version, the old version"
+-- "cc, txc, name length, 8 words of name bytes, the new version .., the old version"
 unfoldable pub entryOf : List ℕ → Entry
 entryOf p = record { stamp = stampOf p; size = wordAt p 8; name = nameBytes p; new = versionOf (newOf p); old = versionOf (oldOf p) }
 

@@ -7,7 +7,7 @@ ghost use Rattle.counts.specs.Stamps.{tableIn};
 ghost use Rattle.counts.specs.TableLaws.{LaidOut};
 ghost use Rattle.apages.specs.Free.{freeIn, waitingIn};
 ghost use Rattle.apages.specs.Index.{pageIn};
-ghost use Rattle.card.specs.ViewLaws.{PairIn};
+ghost use Rattle.apages.specs.PassLaws.{PairIn};
 use counts::Geo;
 use counts::View;
 use files::page_at;

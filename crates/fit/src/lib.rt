@@ -3,8 +3,7 @@ ghost use mathlib.Core.Path.{_≡_};
 ghost use Rattle.words.specs.Lists.{every};
 ghost use Rattle.sectors.specs.Sectors.{sec};
 ghost use Rattle.counts.specs.TableLaws.{LaidOut};
-ghost use Rattle.session.specs.Fits.{fits};
-ghost use Rattle.session.specs.FitTests.{tableFits, viewsFit, stampsFit};
+ghost use Rattle.session.specs.Fits.{tableFits, viewsFit, stampsFit, fits};
 use session::Opened;
 
 // Whether the counts and the table of the working image are the session's.

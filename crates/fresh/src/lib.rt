@@ -73,7 +73,7 @@ fn clear(img: &mut [u8])
     }
 }
 
-// Group p of a fresh index: "0, 0, T + 2 + 2p, T + 3 + 2p".
+// Group p of a fresh index: the words 0, 0, T + 2 + 2p, T + 3 + 2p.
 fn fresh_group(g: Geo, p: u32) -> Index
     requires { ⌜ InLimits g × (p < gP g) ⌝ }
     ensures { λ r. ⌜ r ≡ freshGroup g p ⌝ }

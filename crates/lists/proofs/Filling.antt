@@ -28,8 +28,8 @@ use Rattle.card.specs.declared.Line.{Line}
 use Rattle.card.specs.Plan.{Listed}
 use Rattle.card.proofs.Line as T
 use Rattle.lists.specs.declared.Listing.{Listing}
-use Rattle.lists.specs.Listings.{filesAt, written}
-use Rattle.lists.specs.ListingLaws.{Ready, Fills}
+use Rattle.lists.specs.Listings.{filesAt, filledTo}
+use Rattle.lists.specs.ListingLaws.{HasRoom, Fills}
 use Rattle.lists.proofs.Listing as Z
 use Rattle.lists.proofs.fill_lines as fill
 
@@ -49,7 +49,7 @@ Lasts = Unit {0} × (Unit {0} × (List Line × Unit {0}))
 
 -- what `fill_lines` says of its answer and of the last lines
 abbrev pub Filled : List ℕ → List Line → Listing → Answer → List Line → Type 0
-Filled img ys r n zs = (n ≡ r .answer) × (zs ≡ written (filesAt r img) (r .answer .count) ys)
+Filled img ys r n zs = (n ≡ r .answer) × (zs ≡ filledTo (filesAt r img) (r .answer .count) ys)
 
 pub told : (img : List ℕ) (ys : List Line) (d : Listed) (r : Listing) → Fills r img ys d → (n : Answer) (zs : List Line) → Filled img ys r n zs → (n ≡ d .answer) × (zs ≡ d .lines)
 told img ys d r g n zs h = (h .0 ∙ g .0, h .1 ∙ g .1)
@@ -62,7 +62,7 @@ module _ {M : Type 1} (𝓤 : URA M) (H : Heap 𝓤) (A : Atoms 𝓤) (at-mem : 
     abbrev pub to-fill : Listing → Val → Fill .Ghost
     to-fill r v = (((κ₀, (κ₁, tt)), (q₀, (q₁, tt)), tt, (x, (r, (y, tt))), (imgVal x ∷ [], (v ∷ [], (tableVal y ∷ [], tt)))), tt)
 
-    pub asks-fill : (r : Listing) (v : Val) → Ready r (x .now) (length (y .now))
+    pub asks-fill : (r : Listing) (v : Val) → HasRoom r (x .now) (length (y .now))
         → ent 𝓤 (onEntry 𝓤 H A fill.signature (κ₀, (κ₁, tt)) (q₀, (q₁, tt)) (x, (r, (y, tt))) (imgVal x ∷ [], (v ∷ [], (tableVal y ∷ [], tt)))) (Fill .pre (to-fill r v))
     asks-fill r v ready =
         qed W ((‵ (flft κ₀ q₀) ⊛ (‵ (flft κ₁ q₁) ⊛ ‵ ftrue)) ∷ ‵ (owns (ShrSlice (named 0) κ₀ u8 ∷ Z.the-row ∷ MutSlice (named 1) κ₁ T.the-row ∷ []) (x, (r, (y, tt))) (imgVal x ∷ [], (v ∷ [], (tableVal y ∷ [], tt)))) ∷ []) ∵ says ! ready $ frame ! $ done !

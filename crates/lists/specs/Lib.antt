@@ -1,3 +1,4 @@
 pub mod Listings
+pub mod ListingText
 pub mod ListingLaws
 pub mod ListingTests

@@ -1,8 +1,6 @@
 -- What list judges and counts before it fills a line, and the table with its first lines filled. Assumes nothing.
-use mathlib.Core.Bool.{cond}
 use mathlib.Core.List.{List}
 use Prim.Native.Nat.{ℕ, zero, suc}
-use lib.Dec.{leb}
 use lib.ListN.{length, getD, set}
 use Rattle.sectors.specs.Sectors.{sec}
 use Rattle.counts.specs.declared.Geo.{Geo}
@@ -11,13 +9,13 @@ use Rattle.counts.specs.Geometry.{geoOf}
 use Rattle.counts.specs.Stamps.{tableIn, asIs}
 use Rattle.directory.specs.Directory.{entriesOf}
 use Rattle.card.specs.declared.Line.{Line}
-use Rattle.card.specs.Plan.{refused, done}
-use Rattle.card.specs.Files.{filesOf, noLine}
-use Rattle.card.specs.Sound.{shapeOk, sound}
+use Rattle.card.specs.Plan.{ended, refused, done}
+use Rattle.card.specs.Files.{filesOf, noLine, listPlan}
+use Rattle.card.specs.Reading.{filesShown, readPlan}
 use Rattle.session.specs.declared.Session.{Session}
 use Rattle.session.specs.declared.Session.the-variants.{Closed, Open}
 use Rattle.session.specs.Views.{presentView}
-use Rattle.session.specs.Fits.{fits}
+use Rattle.store.specs.Look.{listTests}
 use Rattle.lists.specs.declared.Listing.{Listing}
 
 -- the files of a view
@@ -32,20 +30,29 @@ filesAt l img = filesBy (l .geo) (l .view) img
 unfoldable pub noListing : ℕ → Listing
 noListing k = record { answer = refused k; geo = record { s = 0; t = 0; d = 0 }; view = record { c = record { 0 = 0 }; t = record { 0 = 0 } } }
 
--- "10: lent output shorter than the answer"
+-- a view with the count of its files
+unfoldable pub viewListing : Geo → View → List ℕ → Listing
+viewListing g v img = record { answer = done (length (filesBy g v img)); geo = g; view = v }
+
+-- the present view of a session; a closed one has none
+unfoldable pub presentListing : Session → List ℕ → Listing
+presentListing Closed work = noListing 0
+presentListing (Open s) work = viewListing (s .geo) (presentView s) work
+
+-- the last test of both lists, 10
 unfoldable pub listingIn : Geo → View → List ℕ → ℕ → Listing
-listingIn g v img room = cond (leb (length (filesBy g v img)) room) (record { answer = done (length (filesBy g v img)); geo = g; view = v }) (noListing 10)
+listingIn g v img room = ended (listPlan (filesBy g v img) room) noListing (λ j a. viewListing g v img)
 
--- "list 4, 2, 10"
+-- by the tests of a session's list
 unfoldable pub sessionListing : Session → List ℕ → ℕ → Listing
-sessionListing Closed work room = noListing 4
-sessionListing (Open s) work room = cond (fits s work) (listingIn (s .geo) (presentView s) work room) (noListing 2)
+sessionListing s work room = ended (listTests s work room) noListing (λ j a. presentListing s work)
 
--- "its own list (1, 2, 10)"
+-- by the tests of a card's list
 unfoldable pub cardListing : List ℕ → ℕ → Listing
-cardListing card room = cond (shapeOk card) (cond (sound card) (listingIn (geoOf (sec card)) (asIs (geoOf (sec card))) card room) (noListing 2)) (noListing 1)
+cardListing card room =
+    ended (readPlan card (listPlan (filesShown card) room)) noListing (λ j a. viewListing (geoOf (sec card)) (asIs (geoOf (sec card))) card)
 
 -- the table with its first n lines filled, one after the other
-unfoldable pub written : List Line → ℕ → List Line → List Line
-written files zero lines = lines
-written files (suc n) lines = set (written files n lines) n (getD files n noLine)
+unfoldable pub filledTo : List Line → ℕ → List Line → List Line
+filledTo files zero lines = lines
+filledTo files (suc n) lines = set (filledTo files n lines) n (getD files n noLine)

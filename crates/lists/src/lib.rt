@@ -9,8 +9,8 @@ ghost use Rattle.card.specs.Files.{noLine};
 ghost use Rattle.card.specs.Reading.{readList};
 ghost use Rattle.store.specs.Look.{list};
 ghost use Rattle.crossing.specs.Crossing.{decoded};
-ghost use Rattle.lists.specs.Listings.{filesAt, noListing, listingIn, sessionListing, cardListing, written};
-ghost use Rattle.lists.specs.ListingLaws.{Ready};
+ghost use Rattle.lists.specs.Listings.{filesAt, noListing, listingIn, sessionListing, cardListing, filledTo};
+ghost use Rattle.lists.specs.ListingLaws.{HasRoom};
 use card::Answer;
 use card::Line;
 use card::refusal;
@@ -107,8 +107,8 @@ fn line_of(img: &[u8], l: Listing, i: u32) -> Line
 
 // Fills the first lines of the table, one line a file; later lines stay.
 fn fill_lines(img: &[u8], l: Listing, lines: &mut [Line]) -> Answer
-    requires { ⌜ Ready l (now img) (length (now lines)) ⌝ }
-    ensures { λ r. ⌜ (r ≡ l .answer) × (now (lines .exit) ≡ written (filesAt l (now (img .entry))) (l .answer .count) (now (lines .entry))) ⌝ }
+    requires { ⌜ HasRoom l (now img) (length (now lines)) ⌝ }
+    ensures { λ r. ⌜ (r ≡ l .answer) × (now (lines .exit) ≡ filledTo (filesAt l (now (img .entry))) (l .answer .count) (now (lines .entry))) ⌝ }
 {
     let mut i: u32 = 0;
     while i < l.answer.count {

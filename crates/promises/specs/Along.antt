@@ -25,15 +25,15 @@ use Rattle.promises.specs.Whole.{ReadsAs, LooksAs}
 -- the files that a cut would leave, and those of the session, if one is open
 pub record Plain : Type 0 where
   pub kept : List Item
-  pub now : Option (List Item)
+  pub present : Option (List Item)
 
 -- no session is open
 abbrev pub atRest : List Item → Plain
-atRest l = record { kept = l; now = none }
+atRest l = record { kept = l; present = none }
 
 -- a session is open that shows m
 abbrev pub inSession : List Item → List Item → Plain
-inSession l m = record { kept = l; now = some m }
+inSession l m = record { kept = l; present = some m }
 
 -- what a call that gives 0 does to it, from p to q
 pub data Does : Call → Plain → Plain → Type 0 where
@@ -111,7 +111,7 @@ SessionTells (Open s) work (some l) = LooksAs s work l
 pub record Tells (w : World) (p : Plain) : Type 0 where
   -- reading the card, at any time, also while a session is open
   pub reading : ReadsAs (w .card) (p .kept)
-  pub session : SessionTells (w .session) (w .work) (p .now)
+  pub session : SessionTells (w .session) (w .work) (p .present)
 
 -- in every history there is a plain store that went along with it, and every answer is its
 pub record Simulated {w : World} (r : Reach w) : Type 0 where

@@ -35,7 +35,7 @@ nowOf Closed work = none
 nowOf (Open s) work = some (shownIn (Open s) work)
 
 abbrev pub plainOf : World → Plain
-plainOf w = record { kept = w .last; now = nowOf (w .session) (w .work) }
+plainOf w = record { kept = w .last; present = nowOf (w .session) (w .work) }
 
 session-tells : (o : Session) (work : List ℕ) → FitOf o work → SessionTells o work (nowOf o work)
 unfolding nowOf
@@ -70,7 +70,7 @@ unfolding after edited givesAt
 moves-put w n d goal = by-number (putC n d goal) (putAt (w .session) (w .work) n d goal .answer .number) (plainOf w) _ w (λ z. go (w .session) z) (unfold refusedBy in refl)
   where
     go : (o : Session) → putAt o (w .work) n d goal .answer .number ≡ 0
-        → Does (putC n d goal) (record { kept = w .last; now = nowOf o (w .work) }) (record { kept = w .last; now = nowOf o (putAt o (w .work) n d goal .image) })
+        → Does (putC n d goal) (record { kept = w .last; present = nowOf o (w .work) }) (record { kept = w .last; present = nowOf o (putAt o (w .work) n d goal .image) })
     go Closed z = unfold putAt refused in absurd (omega (arith, z))
     go (Open s) z = unfold nowOf in puts n d goal (put-answers (Open s) (w .work) n d goal z)
 
@@ -79,7 +79,7 @@ unfolding after edited givesAt
 moves-remove w n = by-number (removeC n) (remove (w .session) (w .work) n .answer .number) (plainOf w) _ w (λ z. go (w .session) z) (unfold refusedBy in refl)
   where
     go : (o : Session) → remove o (w .work) n .answer .number ≡ 0
-        → Does (removeC n) (record { kept = w .last; now = nowOf o (w .work) }) (record { kept = w .last; now = nowOf o (remove o (w .work) n .image) })
+        → Does (removeC n) (record { kept = w .last; present = nowOf o (w .work) }) (record { kept = w .last; present = nowOf o (remove o (w .work) n .image) })
     go Closed z = unfold remove refused in absurd (omega (arith, z))
     go (Open s) z = unfold nowOf in rw (remove-answers (Open s) (w .work) n z) (removes n (w .last) (shownIn (Open s) (w .work)))
 
@@ -100,8 +100,8 @@ unfolding after stepped givesAt
 moves-sync w = by-number syncC (sync (w .session) (w .card) (w .work) .answer .number) (plainOf w) _ w (λ z. go (w .session) z) (unfold refusedBy in refl)
   where
     go : (o : Session) → sync o (w .card) (w .work) .answer .number ≡ 0
-        → Does syncC (record { kept = w .last; now = nowOf o (w .work) })
-        (record { kept = shownIn o (w .work); now = nowOf (sync o (w .card) (w .work) .session) (sync o (w .card) (w .work) .work) })
+        → Does syncC (record { kept = w .last; present = nowOf o (w .work) })
+        (record { kept = shownIn o (w .work); present = nowOf (sync o (w .card) (w .work) .session) (sync o (w .card) (w .work) .work) })
     go Closed z = unfold sync refused in absurd (omega (arith, z))
     go (Open s) z =
         rw (sync-now s (w .card) (w .work) (sync (Open s) (w .card) (w .work) .work) z, sync-same (Open s) (w .card) (w .work) z)
@@ -112,8 +112,8 @@ unfolding after stepped givesAt
 moves-unmount w = by-number unmountC (unmount (w .session) (w .card) (w .work) .answer .number) (plainOf w) _ w (λ z. go (w .session) z) (unfold refusedBy in refl)
   where
     go : (o : Session) → unmount o (w .card) (w .work) .answer .number ≡ 0
-        → Does unmountC (record { kept = w .last; now = nowOf o (w .work) })
-        (record { kept = shownIn o (w .work); now = nowOf (unmount o (w .card) (w .work) .session) (unmount o (w .card) (w .work) .work) })
+        → Does unmountC (record { kept = w .last; present = nowOf o (w .work) })
+        (record { kept = shownIn o (w .work); present = nowOf (unmount o (w .card) (w .work) .session) (unmount o (w .card) (w .work) .work) })
     go Closed z = unfold unmount refused in absurd (omega (arith, z))
     go (Open s) z = rw (unmount-changes s (w .card) (w .work) z .closed) (unfold nowOf in unmounts (w .last) (shownIn (Open s) (w .work)))
 
@@ -126,7 +126,7 @@ mount-now card work x =
     (mount-num card work) (λ j a e. unfold mountDone nowOf in refl)
 
 mount-goes : (card work : List ℕ) (p : Plain) → shownBy card ≡ p .kept → mount card work .answer .number ≡ 0
-    → Does mountC p (record { kept = shownBy card; now = nowOf (mount card work .session) (mount card work .work) })
+    → Does mountC p (record { kept = shownBy card; present = nowOf (mount card work .session) (mount card work .work) })
 mount-goes card work p h z = rw (mount-now card work (mount card work .work) z, mount-shows card work z, h) (mounts p)
 
 moves-mount : (o : Session) (card work : List ℕ) (q : Pending) (m : List Item) → shownBy card ≡ m

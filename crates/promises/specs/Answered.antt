@@ -36,7 +36,7 @@ use Rattle.promises.specs.ListLaws.{listOf, list-absent, list-present}
 use Rattle.promises.specs.Items.{items-same}
 use Rattle.promises.specs.Alone.{Alone, quiet-before, quiet-after, without-quiet, without-one, list-append, without-append}
 use Rattle.promises.specs.Ready.{ownOf, tcOf, tpOf, entryAt, entryFor, lim, hc, hw, pres, Ready, spot, inCut, stamps}
-use Rattle.promises.specs.Change.{now, data-put, left-alone, entries-now}
+use Rattle.promises.specs.Change.{data-put, left-alone, entries-now}
 
 every-take : {A : Type 0} (f : A → Bool) (n : ℕ) (l : List A) → every f l ≡ true → every f (take n l) ≡ true
 unfolding every
@@ -174,7 +174,7 @@ module _ (s : Opened) (j a k : ℕ) (v : Version) (work n d : List ℕ) (k₀ : 
         before = listOf tp work (take j es);
         after = listOf tp work (drop (suc j) es);
         others = list-old;
-        now = list-now ∙ ap (λ (l : List Item). listOf tp work (take j es) ++ l) (list-present tp after x (drop (suc j) es) (new-shown ∙ e) ∙ rw (new-name, text, keep-after));
+        becomes = list-now ∙ ap (λ (l : List Item). listOf tp work (take j es) ++ l) (list-present tp after x (drop (suc j) es) (new-shown ∙ e) ∙ rw (new-name, text, keep-after));
       }
     where
       in-run : (i : ℕ) → FileHolds (putRun a d) i → (a ≤ i) × (i < a + k)

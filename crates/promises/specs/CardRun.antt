@@ -98,8 +98,8 @@ module _ (s : Opened) (card work : List ℕ) (p : Pending) (m : List Item) (V₀
   abbrev g : Geo
   g = s .geo
 
-  abbrev now : List ℕ
-  now = setWord (s .c .0) (s .t .0) work
+  abbrev newWork : List ℕ
+  newWork = setWord (s .c .0) (s .t .0) work
 
   abbrev ts : ℕ
   ts = tableSector (s .c .0)
@@ -107,14 +107,14 @@ module _ (s : Opened) (card work : List ℕ) (p : Pending) (m : List Item) (V₀
   L : Limits g
   L = limits g (F .shape)
 
-  wd : length (sec now ts) ≡ 512
-  wd = sec-in now (g .s) ts (sync-length s work F live) (inside s work F live)
+  wd : length (sec newWork ts) ≡ 512
+  wd = sec-in newWork (g .s) ts (sync-length s work F live) (inside s work F live)
 
   -- the table sector written over the working image makes it the synced one
-  table-written : setSec work ts (sec now ts) ≡ now
-  table-written = image-same _ now (g .s) (setSec-length work ts (sec now ts) ∙ F .sized) (sync-length s work F live) (λ i l. pick i (ℕ-discrete i ts))
+  table-written : setSec work ts (sec newWork ts) ≡ newWork
+  table-written = image-same _ newWork (g .s) (setSec-length work ts (sec newWork ts) ∙ F .sized) (sync-length s work F live) (λ i l. pick i (ℕ-discrete i ts))
     where
-      pick : (i : ℕ) → Dec (i ≡ ts) → sec (setSec work ts (sec now ts)) i ≡ sec now i
+      pick : (i : ℕ) → Dec (i ≡ ts) → sec (setSec work ts (sec newWork ts)) i ≡ sec newWork i
       pick i (yes e) = rw e (set-here (g .s) work _ ts (F .sized) (inside s work F live) wd)
       pick i (no o) = set-there (g .s) work _ ts (F .sized) (inside s work F live) wd i o ∙ sym (sync-other s work F live i o)
 
@@ -123,18 +123,18 @@ module _ (s : Opened) (card work : List ℕ) (p : Pending) (m : List Item) (V₀
   top-settled img j = refl
 
   -- after the copies: the card is the working image
-  rest : (r : List Step) → CanAll (g .s) r (settled now) now → (p₂ : Pending) (c₂ : List ℕ) → Can (g .s) p₂ c₂ → Top work p₂ → c₂ ≡ work
-      → CanAll (g .s) (settle ∷ write ts (sec now ts) ∷ settle ∷ r) p₂ c₂
+  rest : (r : List Step) → CanAll (g .s) r (settled newWork) newWork → (p₂ : Pending) (c₂ : List ℕ) → Can (g .s) p₂ c₂ → Top work p₂ → c₂ ≡ work
+      → CanAll (g .s) (settle ∷ write ts (sec newWork ts) ∷ settle ∷ r) p₂ c₂
   rest r f p₂ c₂ C t e =
       can-settle (g .s) _ p₂ c₂ C
-      (subst (λ (x : Pending). CanAll (g .s) (write ts (sec now ts) ∷ settle ∷ r) x c₂) (sym (landed work p₂ t))
-      (subst (λ (x : List ℕ). CanAll (g .s) (write ts (sec now ts) ∷ settle ∷ r) (settled work) x) (sym e)
-      (can-write (g .s) ts (sec now ts) (settle ∷ r) (settled work) work (inside s work F live) wd (top-can (g .s) (settled work) work (F .sized) (top-settled work))
+      (subst (λ (x : Pending). CanAll (g .s) (write ts (sec newWork ts) ∷ settle ∷ r) x c₂) (sym (landed work p₂ t))
+      (subst (λ (x : List ℕ). CanAll (g .s) (write ts (sec newWork ts) ∷ settle ∷ r) (settled work) x) (sym e)
+      (can-write (g .s) ts (sec newWork ts) (settle ∷ r) (settled work) work (inside s work F live) wd (top-can (g .s) (settled work) work (F .sized) (top-settled work))
       (λ C′. can-settle (g .s) r _ _ C′
-      (subst (λ (x : Pending). CanAll (g .s) r x (setSec work ts (sec now ts))) (sym (table-lands s card work p m V₀ F live))
-      (subst (λ (x : List ℕ). CanAll (g .s) r (settled now) x) (sym table-written) f))))))
+      (subst (λ (x : Pending). CanAll (g .s) r x (setSec work ts (sec newWork ts))) (sym (table-lands s card work p m V₀ F live))
+      (subst (λ (x : List ℕ). CanAll (g .s) r (settled newWork) x) (sym table-written) f))))))
 
-  pub sync-can : (r : List Step) → CanAll (g .s) r (settled now) now → CanAll (g .s) (syncSteps s card work r) p card
+  pub sync-can : (r : List Step) → CanAll (g .s) r (settled newWork) newWork → CanAll (g .s) (syncSteps s card work r) p card
   unfolding syncSteps
   sync-can r f =
       can-copy (g .s) card work (F .sized) 1 0 _ p card (omega (arith, L .sLow, L .past, L .dir)) (record { sized = V₀ .sized; held = V₀ .may }) (V₀ .top) (λ j lo. refl)

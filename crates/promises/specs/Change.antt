@@ -59,10 +59,10 @@ module _ (s : Opened) (j a k : ℕ) (v : Version) (work n d : List ℕ) (k₀ : 
       low-spot : gDir g ≤ spotOf g j .sector
       low-spot = spot s j a k v work n d k₀ R .low
 
-  abbrev pub now : List ℕ
-  now = editWork s j a k v work n d
+  abbrev pub newWork : List ℕ
+  newWork = editWork s j a k v work n d
 
-  edit-open : now ≡ changeBits g (tpOf s work) (ownOf s) a k (oldRun s j work .start .0) (oldRun s j work .sectors) two
+  edit-open : newWork ≡ changeBits g (tpOf s work) (ownOf s) a k (oldRun s j work .start .0) (oldRun s j work .sectors) two
   unfolding editWork runAt ownStamp two
   edit-open = rw (present-live s (sec work) (R .live))
 
@@ -92,32 +92,32 @@ module _ (s : Opened) (j a k : ℕ) (v : Version) (work n d : List ℕ) (k₀ : 
   m = oldRun s j work .sectors
 
   -- what the change of the bitmap does
-  remapped : Remapped g (tcOf s work) (ownOf s) (λ p. setRun (setRun p a k 1) b m 0) (λ q. ((0 < k) × (q ≡ a / 4096)) ⊎ ((0 < m) × (q ≡ b / 4096))) two now
+  remapped : Remapped g (tcOf s work) (ownOf s) (λ p. setRun (setRun p a k 1) b m 0) (λ q. ((0 < k) × (q ≡ a / 4096)) ⊎ ((0 < m) × (q ≡ b / 4096))) two newWork
   remapped =
       rw edit-open
       (bits-changed g L (tcOf s work) (ownOf s) (R .fit .count) (R .fit .tx) (hc s work (R .fit) (R .live)) (hw s work (R .fit) (R .live)) a k b m two paired-two (R .page)
       (λ h. omega (arith, R .fits, L .covered)) (old-page s j a k v work n d k₀ R) (λ h. omega (arith, old-room s j a k v work n d k₀ R, L .covered)))
 
-  pub edit-length : length now ≡ 512 * g .s
+  pub edit-length : length newWork ≡ 512 * g .s
   edit-length = remapped .paired .sized
 
   -- the index, at a cut read as before
-  pub index-same : IndexSame g (tcOf s work) (ownOf s) (indexAt s work) (indexIn g (sec now))
+  pub index-same : IndexSame g (tcOf s work) (ownOf s) (indexAt s work) (indexIn g (sec newWork))
   index-same = rw index-two at (remapped .index)
 
   -- a pair with a changing bit has the session's stamp
-  pub stamped-now : (q : ℕ) → q < gP g → ((0 < k) × (q ≡ a / 4096)) ⊎ ((0 < m) × (q ≡ b / 4096)) → stampOf (groupOf (indexIn g (sec now)) q) ≡ ownOf s
+  pub stamped-now : (q : ℕ) → q < gP g → ((0 < k) × (q ≡ a / 4096)) ⊎ ((0 < m) × (q ≡ b / 4096)) → stampOf (groupOf (indexIn g (sec newWork)) q) ≡ ownOf s
   stamped-now = remapped .stamped
 
   -- the map of the present view has the change, that of the cut view none
-  pub map-now : pageIn g (tpOf s work) (sec now) ≡ setRun (setRun (pageIn g (tpOf s work) (sec work)) a k 1) b m 0
+  pub map-now : pageIn g (tpOf s work) (sec newWork) ≡ setRun (setRun (pageIn g (tpOf s work) (sec work)) a k 1) b m 0
   map-now = rw (map-two (tpOf s work)) at (remapped .map)
 
-  pub cut-now : pageIn g (tcOf s work) (sec now) ≡ pageIn g (tcOf s work) (sec work)
+  pub cut-now : pageIn g (tcOf s work) (sec newWork) ≡ pageIn g (tcOf s work) (sec work)
   cut-now = cut-map g (tcOf s work) (ownOf s) remapped ∙ map-two (tcOf s work)
 
   -- a pair with no changing bit stays to the byte
-  pub pair-kept : (q : ℕ) → q < gP g → ¬ ((0 < k) × (q ≡ a / 4096)) → ¬ ((0 < m) × (q ≡ b / 4096)) → PairSame g work now q
+  pub pair-kept : (q : ℕ) → q < gP g → ¬ ((0 < k) × (q ≡ a / 4096)) → ¬ ((0 < m) × (q ≡ b / 4096)) → PairSame g work newWork q
   pair-kept q l x y =
       let r = remapped .pairs q l (λ w. ⊎-elim x y w) in
       record {
@@ -133,11 +133,11 @@ module _ (s : Opened) (j a k : ℕ) (v : Version) (work n d : List ℕ) (k₀ : 
   no-bits zero (suc y) img u w = absurd (omega arith)
   no-bits (suc x) y img u w = absurd (omega arith)
 
-  pub index-kept : k ≡ 0 → m ≡ 0 → indexIn g (sec now) ≡ indexAt s work
+  pub index-kept : k ≡ 0 → m ≡ 0 → indexIn g (sec newWork) ≡ indexAt s work
   index-kept x y = ap (λ (img : List ℕ). indexIn g (sec img)) (edit-open ∙ no-bits k m two x y) ∙ index-two
 
   -- the pages that the cut view shows
-  pub page-kept : (p : ℕ) → p < gP g → sec now (shownPage (tcOf s work) (groupOf (indexAt s work) p)) ≡ sec work (shownPage (tcOf s work) (groupOf (indexAt s work) p))
+  pub page-kept : (p : ℕ) → p < gP g → sec newWork (shownPage (tcOf s work) (groupOf (indexAt s work) p)) ≡ sec work (shownPage (tcOf s work) (groupOf (indexAt s work) p))
   page-kept p l = (rw index-two at (remapped .cut p l)) ∙ two-low (shownPage (tcOf s work) (groupOf (indexAt s work) p)) (page-low (tcOf s work) p l .1)
 
   pub low : gDir g ≤ spotOf g j .sector
@@ -148,26 +148,26 @@ module _ (s : Opened) (j a k : ℕ) (v : Version) (work n d : List ℕ) (k₀ : 
   high = spot s j a k v work n d k₀ R .high
 
   -- the directory sector, the data, and all that is left alone
-  pub entry-put : sectorEntries (sec now (spotOf g j .sector)) ≡ set (sectorEntries (sec work (spotOf g j .sector))) (spotOf g j .slot) (entryFor s j v work n)
+  pub entry-put : sectorEntries (sec newWork (spotOf g j .sector)) ≡ set (sectorEntries (sec work (spotOf g j .sector))) (spotOf g j .slot) (entryFor s j v work n)
   unfolding two
   entry-put =
       ap sectorEntries (remapped .other (spotOf g j .sector) (λ e. omega (arith, low, past-index g)) (λ q. omega (arith, q .1, low)))
       ∙ entry-here (spotOf g j) _ _ in-one (spot s j a k v work n d k₀ R .four) (wide s j a k v work n d k₀ R)
       ∙ rw (content-other a k d work (R .enough) (spotOf g j .sector) (λ q. omega (arith, high, R .inside _ (q .0) (q .1))))
 
-  pub data-put : (i : ℕ) → gF g ≤ i → sec now i ≡ sec (putContent a k d work) i
+  pub data-put : (i : ℕ) → gF g ≤ i → sec newWork i ≡ sec (putContent a k d work) i
   unfolding two
   data-put i h =
       remapped .other i (λ e. omega (arith, past-index g, dir-data g)) (λ q. omega (arith, q .1, dir-data g))
       ∙ entry-other (spotOf g j) _ _ in-one (spot s j a k v work n d k₀ R .four) (wide s j a k v work n d k₀ R) i (λ e. omega (arith, high))
 
-  pub left-alone : (i : ℕ) → i ≢ spotOf g j .sector → i ≢ g .t + 1 → ¬ ((g .t + 2 ≤ i) × (i < gDir g)) → ¬ ((a ≤ i) × (i < a + k)) → sec now i ≡ sec work i
+  pub left-alone : (i : ℕ) → i ≢ spotOf g j .sector → i ≢ g .t + 1 → ¬ ((g .t + 2 ≤ i) × (i < gDir g)) → ¬ ((a ≤ i) × (i < a + k)) → sec newWork i ≡ sec work i
   left-alone i x y z o = remapped .other i y z ∙ two-other i x o
 
   -- the directory's list changes at j alone
-  pub entries-now : entriesOf g (sec now) ≡ set (entriesOf g (sec work)) j (entryFor s j v work n)
+  pub entries-now : entriesOf g (sec newWork) ≡ set (entriesOf g (sec work)) j (entryFor s j v work n)
   unfolding entriesOf spotOf gF
   entries-now =
-      dir-set (sec work) (sec now) (spotOf g j .sector) (spotOf g j .slot) (entryFor s j v work n) entry-put (gDir g) (gDir g + g .d)
+      dir-set (sec work) (sec newWork) (spotOf g j .sector) (spotOf g j .slot) (entryFor s j v work n) entry-put (gDir g) (gDir g + g .d)
       (λ i lo hi o. left-alone i o (omega (arith, past-index g)) (λ q. omega (arith, q .1)) (λ q. omega (arith, R .inside i (q .0) (q .1))))
       (g .d) (gDir g) j _ (omega arith) (omega arith) (spot-here g (sec work) j (R .below)) refl refl

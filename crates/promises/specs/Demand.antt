@@ -1,4 +1,4 @@
--- Demand 3: "at every moment" of every history a cut leaves a card that reads as it should. Assumes nothing.
+-- Demand 3: at every moment of every history a cut leaves a card that reads as it should. Assumes nothing.
 use mathlib.Core.Logic.{⊎-elim}
 use lib.ListN.{length}
 use Rattle.card.specs.MeansParts.{limits-mean}

@@ -54,7 +54,7 @@ allWritten work p j = sec work j ∷ p j
 unfoldable pub settled : List ℕ → Pending
 settled card j = sec card j ∷ []
 
--- a card that a cut may leave: as long as it was, each sector with "any one value written since the latest moment"
+-- a card that a cut may leave: as long as it was, each sector with any one of its values written since the latest moment, or the one it held then
 pub record Left (p : Pending) (size : ℕ) (card : List ℕ) : Type 0 where
   pub sized : length card ≡ size
   pub held : (j : ℕ) → 512 * j < size → List·Memᴰ (sec card j) (p j)
@@ -140,7 +140,7 @@ stepped w r steps shown =
     (record { card = r .card; work = r .work; session = r .session; pending = play steps (w .pending); last = shown })
     w
 
--- the world after a call; "a refusal changes nothing"
+-- the world after a call; a refusal changes nothing
 unfoldable pub after : Call → World → World
 after (makeC g) w = byNumber (make g (w .card) .answer .number) (afterCut (make g (w .card) .image) (w .work)) w
 after mountC w = let v = before mountC w in stepped v (mount (v .card) (v .work)) (stepsOf mountC v) (shownBy (v .card))
@@ -155,7 +155,7 @@ after (getC n out) w = w
 after (listC lines) w = w
 after freeC w = w
 
--- ---- histories: "From a freshly made card, with any history of calls and cuts"
+-- ---- histories: any calls and cuts, from a freshly made card
 
 -- what may stand on the card at a cut inside a call, after its first n steps
 unfoldable pub pendingIn : Call → ℕ → World → Pending
@@ -170,7 +170,7 @@ pub data Reach : World → Type 0 where
 
 -- ---- the demand
 
--- a card that reads as exactly these files, and on which "each data sector is in exactly one shown file or free"
+-- a card that reads as exactly these files, and on which each data sector is in exactly one shown file, or free
 pub record Reads (card : List ℕ) (files : List Item) : Type 0 where
   pub limits : InLimits (geoOf (sec card))
   pub sized : length card ≡ 512 * geoOf (sec card) .s
@@ -191,7 +191,7 @@ isSync (getC n out) = false
 isSync (listC lines) = false
 isSync freeC = false
 
--- "reading shows exactly the files of that moment, or, if the cut fell inside a sync or unmount, possibly those of its start"
+-- demand 3: reading shows exactly the files of the latest moment, or, if the cut fell inside a sync or unmount, possibly those of its start
 abbrev pub Demand3 : Type 0
 Demand3 = (w : World) → Reach w →
     ((card : List ℕ) → Left (w .pending) (length (w .card)) card → Reads card (w .last))

@@ -31,8 +31,8 @@ module _ (s : Opened) (card work : List ℕ) (l : length card ≡ 512 * s .geo .
   abbrev g : Geo
   g = s .geo
 
-  abbrev now : List ℕ
-  now = setWord (s .c .0) (s .t .0) work
+  abbrev newWork : List ℕ
+  newWork = setWord (s .c .0) (s .t .0) work
 
   abbrev ts : ℕ
   ts = tableSector (s .c .0)
@@ -46,7 +46,7 @@ module _ (s : Opened) (card work : List ℕ) (l : length card ≡ 512 * s .geo .
   pub small : s .t .0 < 2 ^ 32
   small = omega (arith, F .tx)
 
-  pub now-sized : length now ≡ 512 * g .s
+  pub now-sized : length newWork ≡ 512 * g .s
   now-sized = word-length g (s .c .0) (s .t .0) work (F .shape) (F .sized) (F .count) small
 
   pub room : (1 ≤ ts) × (ts ≤ g .t)
@@ -55,27 +55,27 @@ module _ (s : Opened) (card work : List ℕ) (l : length card ≡ 512 * s .geo .
   inside : ts < g .s
   inside = omega (arith, room .1, L .past, L .dir, L .sLow)
 
-  pub now-here : sec now ts ≡ withWord (s .c .0) (s .t .0) (sec work ts)
+  pub now-here : sec newWork ts ≡ withWord (s .c .0) (s .t .0) (sec work ts)
   unfolding setWord tableSector
   now-here =
       let e : 512 + 4 * s .c .0 ≡ 512 * (1 + s .c .0 / 128) + 4 * (s .c .0 % 128) = omega arith in
       rw e (inside-here work (1 + s .c .0 / 128) (4 * (s .c .0 % 128)) (wordBytes (s .t .0)) (omega (arith, wordBytes-length (s .t .0))))
 
-  pub now-there : (i : ℕ) → i ≢ ts → sec now i ≡ sec work i
+  pub now-there : (i : ℕ) → i ≢ ts → sec newWork i ≡ sec work i
   now-there = word-other g (s .c .0) (s .t .0) work (F .shape) (F .sized) (F .count) small
 
   -- what stands on the card when the steps `r` behind the sync begin
   pub record Done (r : List Step) (out : List ℕ) : Type 0 where
     pub card′ : List ℕ
     pub ends : out ≡ applySteps r card′
-    pub images : BothSynced s card work (sec work 0) card′ now
+    pub images : BothSynced s card work (sec work 0) card′ newWork
 
   pub done-by : (r : List Step) → Done r (applySteps (syncSteps s card work r) card)
   unfolding allSteps
   done-by r = rw (sync-same-card s card work r) (one (copied (g .s) 1 0 work card _ l (F .sized) (omega (arith, L .sLow))))
     where
       tail : List Step
-      tail = settle ∷ write ts (sec now ts) ∷ settle ∷ r
+      tail = settle ∷ write ts (sec newWork ts) ∷ settle ∷ r
 
       out : List ℕ
       out = applySteps (allSteps s work r) card
@@ -84,11 +84,11 @@ module _ (s : Opened) (card work : List ℕ) (l : length card ≡ 512 * s .geo .
           → Copied (g .s) (g .t + 1) (g .s - g .t - 1) work (A .card′) tail (applySteps (copySteps work (g .t + 1) (g .s - g .t - 1) tail) (A .card′)) → Done r out
       two A B =
           record {
-            card′ = setSec (B .card′) ts (sec now ts);
+            card′ = setSec (B .card′) ts (sec newWork ts);
             ends = A .ends ∙ B .ends ∙ (unfold applySteps in refl);
             images =
                 record {
-                  cardSize = setSec-length (B .card′) ts (sec now ts) ∙ B .sized ∙ sym l;
+                  cardSize = setSec-length (B .card′) ts (sec newWork ts) ∙ B .sized ∙ sym l;
                   workSize = now-sized ∙ sym (F .sized);
                   cardHead = there 0 (omega (arith, room .0)) ∙ B .there 0 (λ q. omega (arith, q .0)) ∙ A .here 0 (omega arith) (omega arith);
                   copied = λ i h. past i h;
@@ -101,13 +101,13 @@ module _ (s : Opened) (card work : List ℕ) (l : length card ≡ 512 * s .geo .
                 };
           }
         where
-          wd : length (sec now ts) ≡ 512
-          wd = sec-in now (g .s) ts now-sized inside
+          wd : length (sec newWork ts) ≡ 512
+          wd = sec-in newWork (g .s) ts now-sized inside
 
-          there : (i : ℕ) → i ≢ ts → sec (setSec (B .card′) ts (sec now ts)) i ≡ sec (B .card′) i
+          there : (i : ℕ) → i ≢ ts → sec (setSec (B .card′) ts (sec newWork ts)) i ≡ sec (B .card′) i
           there = set-there (g .s) (B .card′) _ ts (B .sized) inside wd
 
-          past : (i : ℕ) → g .t < i → sec (setSec (B .card′) ts (sec now ts)) i ≡ sec work i
+          past : (i : ℕ) → g .t < i → sec (setSec (B .card′) ts (sec newWork ts)) i ≡ sec work i
           past i h = there i (λ e. omega (arith, e, room .1)) ∙ go (decLt i (g .s))
             where
               go : Dec (i < g .s) → sec (B .card′) i ≡ sec work i
@@ -127,7 +127,7 @@ module _ (s : Opened) (card work : List ℕ) (l : length card ≡ 512 * s .geo .
   unfolding atTop
   at-top h = eq-eqb (s .t .0) maxTx h
 
-  pub synced : BothSynced s card work (sec work 0) (applySteps (syncSteps s card work []) card) now
+  pub synced : BothSynced s card work (sec work 0) (applySteps (syncSteps s card work []) card) newWork
   synced = let D = done-by [] in let e : applySteps (syncSteps s card work []) card ≡ D .card′ = D .ends ∙ (unfold applySteps in refl) in rw e (D .images)
 
   pub sync-done : SyncLeaves s card work (syncDone s card work)

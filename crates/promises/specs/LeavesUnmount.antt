@@ -26,8 +26,8 @@ module _ (s : Opened) (card work : List ℕ) (l : length card ≡ 512 * s .geo .
   abbrev g : Geo
   g = s .geo
 
-  abbrev now : List ℕ
-  now = setWord (s .c .0) (s .t .0) work
+  abbrev newWork : List ℕ
+  newWork = setWord (s .c .0) (s .t .0) work
 
   abbrev ts : ℕ
   ts = tableSector (s .c .0)
@@ -45,23 +45,23 @@ module _ (s : Opened) (card work : List ℕ) (l : length card ≡ 512 * s .geo .
   count-small = omega (arith, F .count, L s card work l F .tHigh)
 
   abbrev back : List ℕ
-  back = setCount (s .c .0) now
+  back = setCount (s .c .0) newWork
 
   back-sized : length back ≡ 512 * g .s
-  back-sized = count-length (s .c .0) (g .s) now count-small (now-sized s card work l F) (pos s card work l F)
+  back-sized = count-length (s .c .0) (g .s) newWork count-small (now-sized s card work l F) (pos s card work l F)
 
   back-head : sec back 0 ≡ withCount (s .c .0) (sec work 0)
-  back-head = count-here (s .c .0) (g .s) now count-small (now-sized s card work l F) (pos s card work l F) ∙ ap (withCount (s .c .0)) (now-there s card work l F 0 (omega (arith, room s card work l F .0)))
+  back-head = count-here (s .c .0) (g .s) newWork count-small (now-sized s card work l F) (pos s card work l F) ∙ ap (withCount (s .c .0)) (now-there s card work l F 0 (omega (arith, room s card work l F .0)))
 
-  back-there : (i : ℕ) → i ≢ 0 → sec back i ≡ sec now i
-  back-there = count-other (s .c .0) (g .s) now count-small (now-sized s card work l F) (pos s card work l F)
+  back-there : (i : ℕ) → i ≢ 0 → sec back i ≡ sec newWork i
+  back-there = count-other (s .c .0) (g .s) newWork count-small (now-sized s card work l F) (pos s card work l F)
 
   back-word : tableOf g (sec back) ≡ set (tableOf g (sec work)) (s .c .0) (s .t .0)
   back-word =
-      table-same g (sec now) (sec back) (λ i lo hi. back-there i (omega arith))
+      table-same g (sec newWork) (sec back) (λ i lo hi. back-there i (omega arith))
       ∙ word-table g (s .c .0) (s .t .0) work (F .shape) (F .sized) (F .count) (small s card work l F)
 
-  returned : (k : List ℕ) → BothSynced s card work (sec work 0) k now → BothSynced s card work (withCount (s .c .0) (sec work 0)) (setSec k 0 (sec back 0)) back
+  returned : (k : List ℕ) → BothSynced s card work (sec work 0) k newWork → BothSynced s card work (withCount (s .c .0) (sec work 0)) (setSec k 0 (sec back 0)) back
   returned k B =
       record {
         cardSize = setSec-length k 0 (sec back 0) ∙ B .cardSize;
@@ -86,11 +86,11 @@ module _ (s : Opened) (card work : List ℕ) (l : length card ≡ 512 * s .geo .
       there = set-there (g .s) k (sec back 0) 0 w (pos s card work l F) wd
 
   -- the steps of an unmount that syncs, and its working image
-  unmount-is : {b : Bool} → s .worn ≡ false → atTop s ≡ b → (unmountSteps s card work ≡ syncSteps s card work (downSteps b s now)) × (unmountWork s work ≡ downWork b s now)
+  unmount-is : {b : Bool} → s .worn ≡ false → atTop s ≡ b → (unmountSteps s card work ≡ syncSteps s card work (downSteps b s newWork)) × (unmountWork s work ≡ downWork b s newWork)
   unfolding unmountSteps unmountStepsBy unmountWork unmountWorkBy syncWork
   unmount-is live q = (
-    ap (λ (x : Bool). unmountStepsBy x s card work) live ∙ ap (λ (x : Bool). syncSteps s card work (downSteps x s now)) q,
-    ap (λ (x : Bool). unmountWorkBy x s work) live ∙ ap (λ (x : Bool). downWork x s now) q,
+    ap (λ (x : Bool). unmountStepsBy x s card work) live ∙ ap (λ (x : Bool). syncSteps s card work (downSteps x s newWork)) q,
+    ap (λ (x : Bool). unmountWorkBy x s work) live ∙ ap (λ (x : Bool). downWork x s newWork) q,
   )
 
   -- the three ends of an unmount: the count goes back, the session becomes worn, the session is worn
@@ -113,7 +113,7 @@ module _ (s : Opened) (card work : List ℕ) (l : length card ≡ 512 * s .geo .
 
   -- a sector 0 with count C counts C
   counts : (a : List ℕ) → sec a 0 ≡ sec back 0 → countOf (sec a) ≡ s .c .0
-  counts a e = head-of (sec back) (sec a) e .0 ∙ count-count (s .c .0) (g .s) now count-small (now-sized s card work l F) (pos s card work l F)
+  counts a e = head-of (sec back) (sec a) e .0 ∙ count-count (s .c .0) (g .s) newWork count-small (now-sized s card work l F) (pos s card work l F)
 
   pub unmount-done : UnmountLeaves s card work (unmountDone s card work)
   unfolding unmountDone

@@ -51,7 +51,7 @@ module _ (n d : List ℕ) (l m : List Item) (w : With n d l m) where
   unfolding lookup orIn
   with-look =
       let a : orIn (lookup n (w .before)) (lookup n (w .after)) ≡ none = sym (look-append n (w .before) (w .after)) ∙ ap (lookup n) (sym (w .others)) ∙ without-none n l in
-      rw (w .now, look-append n (w .before) (record { name = n; content = d } ∷ w .after), eqList-refl n) (first (lookup n (w .before)) (lookup n (w .after)) a)
+      rw (w .becomes, look-append n (w .before) (record { name = n; content = d } ∷ w .after), eqList-refl n) (first (lookup n (w .before)) (lookup n (w .after)) a)
     where
       first : (x y : Option (List ℕ)) → orIn x y ≡ none → orIn x (some d) ≡ some d
       first none y h = refl
@@ -60,5 +60,5 @@ module _ (n d : List ℕ) (l m : List Item) (w : With n d l m) where
   pub with-others : (x : List ℕ) → eqList x n ≡ false → lookup x m ≡ lookup x l
   unfolding lookup
   with-others x h =
-      rw (w .now, look-append x (w .before) (record { name = n; content = d } ∷ w .after), h)
+      rw (w .becomes, look-append x (w .before) (record { name = n; content = d } ∷ w .after), h)
       (sym (look-append x (w .before) (w .after)) ∙ ap (lookup x) (sym (w .others)) ∙ without-others n x l h)

@@ -50,7 +50,7 @@ pub record NoTwo (w : World) : Type 0 where
   pub ofReadList : (lines : List Line) → readList (w .card) lines .answer .number ≢ 2
   pub ofReadGet : (n out : List ℕ) → readGet (w .card) n out .answer .number ≢ 2
 
--- "no. 0 to 11"
+-- the numbers of the table: 0 to 11
 pub record InTable : Type 0 where
   pub ofMake : (g : Geo) (card : List ℕ) → make g card .answer .number ≤ 11
   pub ofMount : (card work : List ℕ) → mount card work .answer .number ≤ 11

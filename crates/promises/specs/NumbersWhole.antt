@@ -26,13 +26,13 @@ use Rattle.card.specs.Reading.{filesShown, readPlan, read, readList}
 use Rattle.session.specs.declared.Opened.{Opened}
 use Rattle.session.specs.declared.Session.{Session}
 use Rattle.session.specs.declared.Session.the-variants.{Closed, Open}
-use Rattle.session.specs.Views.{presentFiles}
+use Rattle.session.specs.Views.{presentFiles, sessionFiles}
 use Rattle.session.specs.Fits.{fits}
 use Rattle.session.specs.FitMeans.{Fits}
 use Rattle.session.specs.FitMeansProved.{fits-mean}
 use Rattle.store.specs.Mount.{Ended, mountPlan, mountDone, mount}
 use Rattle.store.specs.declared.Room.{Room}
-use Rattle.store.specs.Look.{list, noFigures, figures, free}
+use Rattle.store.specs.Look.{listTests, list, noFigures, figures, free}
 use Rattle.store.specs.Sync.{bothPlan, land, syncDone, sync, unmountDone, unmount}
 use Rattle.promises.specs.Numbers.{Row, row, Exactly, Misshapen, closed, makeRows, mountRows, listRows, freeRows, landRows, syncRows, unmountRows, readRows, readListRows}
 use Rattle.promises.specs.RowLaws.{Follows, exactly, numberOf, ended-number, done-row, guard-row, means-row, not-row, eq-row, le-row, lt-row, and-fails, clash, closed-row, open-row}
@@ -120,8 +120,8 @@ of-read-list img lines =
 -- ---- an open session
 
 pub of-list : (s : Session) (work : List ℕ) (lines : List Line) → Exactly (list s work lines .answer .number) (listRows s work lines)
-unfolding list refused listPlan numberOf
-of-list Closed work lines = exactly {rows = listRows Closed work lines} {p = refuse 4} refl closed-row
+unfolding list listTests listPlan sessionFiles
+of-list Closed work lines = exactly {rows = listRows Closed work lines} {p = refuse 4} (list-number [] lines (refuse 4)) closed-row
 of-list (Open s) work lines =
     exactly (list-number (presentFiles s (sec work)) lines _)
     (open-row s (means-row 2 (fits s work) _ _ (fits-mean s work)

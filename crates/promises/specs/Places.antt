@@ -52,7 +52,7 @@ pub record PlaceIs (s : Opened) (work n : List ℕ) (j : ℕ) : Type 0 where
   pub vacant : ¬ HasName s work n j → Vacant s work j
   pub lowest : ¬ HasName s work n j → (i : ℕ) → i < j → ¬ Vacant s work i
 
--- "a fitting run": k sectors of the card from t on lie in one page, "no run crosses out of one", and are free in both views
+-- a run that fits: k sectors of the card from t on lie in one page, "no run crosses out of one", and are free in both views
 abbrev pub FreeFrom : Opened → List ℕ → ℕ → ℕ → Type 0
 FreeFrom s work k t =
     (t + k ≤ s .geo .s) × (t % 4096 + k ≤ 4096) × ((n : ℕ) → t ≤ n → n < t + k → (bitAt (presentPage s (sec work)) n ≡ 0) × (bitAt (cutPage s (sec work)) n ≡ 0))

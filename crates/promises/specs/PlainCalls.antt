@@ -1,4 +1,4 @@
--- Demand 2, "answers as a plain list of names with contents does", stated: names, get, list, free and reading. Assumes nothing.
+-- Demand 2, that the calls answer as a plain list of names with contents does, stated: names, get, list, free and reading. Assumes nothing.
 use mathlib.Core.Path.{_≡_}
 use mathlib.Core.Bool.{cond}
 use mathlib.Core.List.{List, [], _∷_, _++_, List·Memᴰ}

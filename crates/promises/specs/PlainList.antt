@@ -1,4 +1,4 @@
--- "a plain list of names with contents": what a card or a session shows, and what the calls mean on it. Assumes nothing.
+-- A plain list of names with contents: what a card or a session shows, and what the calls mean on it. Assumes nothing.
 use mathlib.Core.Path.{_≡_}
 use mathlib.Core.Bool.{cond}
 use mathlib.Core.List.{List, [], _∷_, _++_}
@@ -50,4 +50,4 @@ pub record With (n d : List ℕ) (l m : List Item) : Type 0 where
   pub before : List Item
   pub after : List Item
   pub others : without n l ≡ before ++ after
-  pub now : m ≡ before ++ (record { name = n; content = d } ∷ after)
+  pub becomes : m ≡ before ++ (record { name = n; content = d } ∷ after)

@@ -1,4 +1,4 @@
--- "Not empty": between any two steps of any call the card as it is then is one of those that a cut may leave. Assumes nothing.
+-- Demand 3 is not empty: between any two steps of any call the card as it is then is one of those that a cut may leave. Assumes nothing.
 use mathlib.Core.Path.{_≡_, refl}
 use mathlib.Core.Bool.{Bool, true, false}
 use mathlib.Core.List.{List, [], _∷_, List·Memᴰ, List·Memᴰ·head}

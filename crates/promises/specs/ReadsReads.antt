@@ -35,7 +35,7 @@ pub record Given (card : List ℕ) (m : List Item) : Type 0 where
   pub gets : (x : Item) (out : List ℕ) → List·Memᴰ x m → length (x .content) ≤ length out
       → readGet card (x .name) out ≡ record { answer = done (length (x .content)); out = splice out 0 (x .content) }
 
--- "reading shows exactly the files": 0, their count, and each by its name into any output that is long enough
+-- reading shows exactly the files: 0, their count, and each by its name into any output that is long enough
 pub reads-reads : (card : List ℕ) (m : List Item) → Reads card m → Given card m
 reads-reads card m R =
     let S = card-shows card (reads-shape R) (reads-sound R) in

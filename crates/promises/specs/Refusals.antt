@@ -12,6 +12,7 @@ use Rattle.card.specs.Make.{makePlan, make}
 use Rattle.card.specs.Reading.{read, readList, readGet}
 use Rattle.session.specs.declared.Session.{Session}
 use Rattle.session.specs.declared.Session.the-variants.{Closed, Open}
+use Rattle.session.specs.Views.{sessionFiles}
 use Rattle.store.specs.Mount.{Ended, mountPlan, mountDone, mount}
 use Rattle.store.specs.Edit.{putPlan, put, removePlan, remove, putAt}
 use Rattle.store.specs.declared.Room.{Room}
@@ -89,9 +90,8 @@ of-get Closed work n out h = (refl, refl)
 of-get (Open s) work n out h = got-same _ _ work out _ h
 
 of-list : (s : Session) (work : List ℕ) (lines : List Line) → list s work lines .answer .number ≢ 0 → SameLines (list s work lines) lines
-unfolding list refused
-of-list Closed work lines h = (refl, refl)
-of-list (Open s) work lines h = listed-same _ lines _ h
+unfolding list
+of-list s work lines h = listed-same (sessionFiles s work) lines _ h
 
 of-free : (s : Session) (work : List ℕ) → free s work .number ≢ 0 → (free s work .free ≡ 0) × (free s work .waiting ≡ 0)
 unfolding free noFigures figures

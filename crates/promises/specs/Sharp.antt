@@ -41,15 +41,15 @@ take-sync s card work k r =
     ap (take (length (syncSteps s card work []) + k)) (sync-append s card work r) ∙ take-append-add (syncSteps s card work []) r k ∙ sym (sync-append s card work (take k r))
 
 module _ (s : Opened) (card work : List ℕ) (p : Pending) (m : List Item) (V₀ : Live s card work p m) (F : Fit s work) (live : s .worn ≡ false) where
-  abbrev now : List ℕ
-  now = setWord (s .c .0) (s .t .0) work
+  abbrev newWork : List ℕ
+  newWork = setWord (s .c .0) (s .t .0) work
 
   -- the cuts behind the sync
-  behind : (b : Bool) → atTop s ≡ b → (k : ℕ) (c : List ℕ) → Left (play (take k (downSteps b s now)) (settled now)) (512 * s .geo .s) c → Reads c (shownIn (Open s) work)
+  behind : (b : Bool) → atTop s ≡ b → (k : ℕ) (c : List ℕ) → Left (play (take k (downSteps b s newWork)) (settled newWork)) (512 * s .geo .s) c → Reads c (shownIn (Open s) work)
   unfolding downSteps play
-  behind true q zero c x = calm-reads (s .geo) now (settled now) _ (new-rests s card work p m V₀ F live .calm) c x
-  behind true q (suc k) c x = calm-reads (s .geo) now (settled now) _ (new-rests s card work p m V₀ F live .calm) c x
-  behind false q zero c x = calm-reads (s .geo) now (settled now) _ (new-rests s card work p m V₀ F live .calm) c x
+  behind true q zero c x = calm-reads (s .geo) newWork (settled newWork) _ (new-rests s card work p m V₀ F live .calm) c x
+  behind true q (suc k) c x = calm-reads (s .geo) newWork (settled newWork) _ (new-rests s card work p m V₀ F live .calm) c x
+  behind false q zero c x = calm-reads (s .geo) newWork (settled newWork) _ (new-rests s card work p m V₀ F live .calm) c x
   behind false q (suc zero) c x = calm-reads (s .geo) _ _ _ (down-calm s card work p m V₀ F live (not-top s (F .tx) q)) c x
   behind false q (suc (suc k)) c x = calm-reads (s .geo) _ _ _ (down-calm s card work p m V₀ F live (not-top s (F .tx) q)) c x
 
@@ -57,7 +57,7 @@ module _ (s : Opened) (card work : List ℕ) (p : Pending) (m : List Item) (V₀
   sharp n h c x = behind (atTop s) refl k c (rw (steps, e, take-sync s card work k down, sync-play s card work p m V₀ F live (take k down)) at x)
     where
       down : List Step
-      down = downSteps (atTop s) s now
+      down = downSteps (atTop s) s newWork
 
       k : ℕ
       k = n - length (syncSteps s card work [])

@@ -27,7 +27,7 @@ use Rattle.session.specs.Views.{presentTable, presentPage, cutPage, presentFile
 use Rattle.session.specs.Fits.{fits}
 use Rattle.session.specs.FitLaws.{Fit, fit-inv}
 use Rattle.session.specs.FitMeansProved.{fits-mean}
-use Rattle.store.specs.Look.{get, list, figures, free}
+use Rattle.store.specs.Look.{get, listTests, list, figures, free}
 use Rattle.store.specs.RoomLaws.{alike}
 use Rattle.promises.specs.PlainList.{lookup, shownBy, shownIn}
 use Rattle.promises.specs.PlainCalls.{plainGet, Lines, SessionShows, CardShows, AllShow}
@@ -54,8 +54,8 @@ module _ (s : Opened) (work : List ℕ) (fit : fits s work ≡ true) where
   unfolding get guard
   get-is n out = rw fit
 
-  list-is : (lines : List Line) → list (Open s) work lines ≡ listEnd (presentFiles s (sec work)) lines (listPlan (presentFiles s (sec work)) lines)
-  unfolding list guard
+  list-is : (lines : List Line) → list (Open s) work lines ≡ listEnd (presentFiles s (sec work)) lines (listPlan (presentFiles s (sec work)) (length lines))
+  unfolding list listTests sessionFiles guard
   list-is lines = rw fit
 
   pub free-is : free (Open s) work ≡ figures s work
@@ -129,7 +129,7 @@ module _ (card : List ℕ) (shape : shapeOk card ≡ true) (good : sound card �
       → readList card lines ≡ record { answer = done (length (shownBy card)); lines = filesShown card ++ drop (length (shownBy card)) lines }
   unfolding readList
   card-lists lines h =
-      rw (read-is (listPlan (filesShown card) lines), shown-list, files-list)
+      rw (read-is (listPlan (filesShown card) (length lines)), shown-list, files-list)
       (view-list g (countOf (sec card)) tab tab card (shape-inv card shape .0) (shape-inv card shape .1) W lone lines (rw shown-list at h))
 
   card-told : Lines (shownBy card) (filesShown card)

@@ -61,7 +61,7 @@ UnmountShows = (w : World) → Reach w → unmount (w .session) (w .card) (w .wo
 abbrev pub LandShows : Type 0
 LandShows = (w : World) (i : ℕ) → (after (landC i) w .session ≡ w .session) × (after (landC i) w .work ≡ w .work)
 
--- "a refusal changes nothing": the world is as it was. (A mount over an open session is a cut first, refused or not.)
+-- a refusal changes nothing: the world is as it was. (A mount over an open session is a cut first, refused or not.)
 pub record Refused (w : World) : Type 0 where
   pub ofMake : (g : Geo) → make g (w .card) .answer .number ≢ 0 → after (makeC g) w ≡ w
   pub ofPut : (n d : List ℕ) (goal : ℕ) → putAt (w .session) (w .work) n d goal .answer .number ≢ 0 → after (putC n d goal) w ≡ w

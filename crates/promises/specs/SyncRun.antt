@@ -33,8 +33,8 @@ module _ (s : Opened) (card work : List ℕ) (p : Pending) (m : List Item) (V₀
   abbrev g : Geo
   g = s .geo
 
-  abbrev pub now : List ℕ
-  now = setWord (s .c .0) (s .t .0) work
+  abbrev pub newWork : List ℕ
+  newWork = setWord (s .c .0) (s .t .0) work
 
   abbrev ts : ℕ
   ts = tableSector (s .c .0)
@@ -55,27 +55,27 @@ module _ (s : Opened) (card work : List ℕ) (p : Pending) (m : List Item) (V₀
   unfolding settled
   keep-settled i x y = rw (mem-one y) (keeps-work i)
 
-  pub new-good : Good g now (shownIn (Open s) work)
+  pub new-good : Good g newWork (shownIn (Open s) work)
   new-good =
       record { sized = sync-length s work F live; geo = sync-geo s work F live; ok = F .shape; good = sync-sound s work F live; shows = sync-shows s work F live }
 
-  pub new-rests : AtRest g now (settled now) (shownIn (Open s) work)
-  new-rests = good-rests g now _ new-good
+  pub new-rests : AtRest g newWork (settled newWork) (shownIn (Open s) work)
+  new-rests = good-rests g newWork _ new-good
 
-  pub new-reads : Either s work m (settled now)
-  new-reads k x = inr (refl, calm-reads g now (settled now) _ (new-rests .calm) k x)
+  pub new-reads : Either s work m (settled newWork)
+  new-reads k x = inr (refl, calm-reads g newWork (settled newWork) _ (new-rests .calm) k x)
 
   -- the table sector written, and not yet landed
-  both-reads : Either s work m (written ts (sec now ts) (settled work))
-  both-reads k x = go (written-cases ts (sec now ts) (settled work) ts (sec k ts) (x .held ts (omega (arith, inside s work F live))))
+  both-reads : Either s work m (written ts (sec newWork ts) (settled work))
+  both-reads k x = go (written-cases ts (sec newWork ts) (settled work) ts (sec k ts) (x .held ts (omega (arith, inside s work F live))))
     where
       rest : (i : ℕ) → 512 * i < 512 * g .s → i ≢ ts → List·Memᴰ (sec k i) (settled work i)
-      rest i l o = rw (written-there ts (sec now ts) (settled work) i o) at (x .held i l)
+      rest i l o = rw (written-there ts (sec newWork ts) (settled work) i o) at (x .held i l)
 
-      go : ((ts ≡ ts) × (sec k ts ≡ sec now ts)) ⊎ List·Memᴰ (sec k ts) (settled work ts) → Reads k m ⊎ (_≡_ {A = Bool} true true × Reads k (shownIn (Open s) work))
+      go : ((ts ≡ ts) × (sec k ts ≡ sec newWork ts)) ⊎ List·Memᴰ (sec k ts) (settled work ts) → Reads k m ⊎ (_≡_ {A = Bool} true true × Reads k (shownIn (Open s) work))
       go (inl q) = new-reads k (record { sized = x .sized; held = λ i l. all i l (ℕ-discrete i ts) })
         where
-          all : (i : ℕ) → 512 * i < 512 * g .s → Dec (i ≡ ts) → List·Memᴰ (sec k i) (settled now i)
+          all : (i : ℕ) → 512 * i < 512 * g .s → Dec (i ≡ ts) → List·Memᴰ (sec k i) (settled newWork i)
           all i l (yes e) = unfold settled in rw e (List·Memᴰ·head (q .1))
           all i l (no o) = unfold settled in List·Memᴰ·head (mem-one (rest i l o) ∙ sym (sync-other s work F live i o))
       go (inr q) = old-reads (settled work) keep-settled k (record { sized = x .sized; held = λ i l. all i l (ℕ-discrete i ts) })
@@ -84,14 +84,14 @@ module _ (s : Opened) (card work : List ℕ) (p : Pending) (m : List Item) (V₀
           all i l (yes e) = rw e q
           all i l (no o) = rest i l o
 
-  pub table-lands : _≡_ {A = Pending} (λ i. newest (written ts (sec now ts) (settled work) i)) (settled now)
+  pub table-lands : _≡_ {A = Pending} (λ i. newest (written ts (sec newWork ts) (settled work) i)) (settled newWork)
   table-lands = fun-ext (λ i. go i (ℕ-discrete i ts))
     where
-      go : (i : ℕ) → Dec (i ≡ ts) → newest (written ts (sec now ts) (settled work) i) ≡ settled now i
-      go i (yes e) = rw (e, written-here ts (sec now ts) (settled work)) (unfold newest settled in refl)
-      go i (no o) = rw (written-there ts (sec now ts) (settled work) i o) (unfold newest settled in (rw (sync-other s work F live i o)))
+      go : (i : ℕ) → Dec (i ≡ ts) → newest (written ts (sec newWork ts) (settled work) i) ≡ settled newWork i
+      go i (yes e) = rw (e, written-here ts (sec newWork ts) (settled work)) (unfold newest settled in refl)
+      go i (no o) = rw (written-there ts (sec newWork ts) (settled work) i o) (unfold newest settled in (rw (sync-other s work F live i o)))
 
-  pub sync-every : (r : List Step) → Every (Either s work m) r (settled now) → Every (Either s work m) (syncSteps s card work r) p
+  pub sync-every : (r : List Step) → Every (Either s work m) r (settled newWork) → Every (Either s work m) (syncSteps s card work r) p
   unfolding syncSteps
   sync-every r h =
       every-copy (Either s work m) KeepAll old-reads card work keep-written 1 0 _ p (V₀ .keeps) (V₀ .top)
@@ -99,20 +99,20 @@ module _ (s : Opened) (card work : List ℕ) (p : Pending) (m : List Item) (V₀
       every-copy (Either s work m) KeepAll old-reads card work keep-written (g .s - g .t - 1) (g .t + 1) _ p₁ k₁ t₁
       (λ p₂ k₂ t₂.
       every-settle (Either s work m) _ p₂ (old-reads p₂ k₂)
-      (subst (λ (x : Pending). Every (Either s work m) (write ts (sec now ts) ∷ settle ∷ r) x) (sym (landed work p₂ t₂))
-      (every-write (Either s work m) ts (sec now ts) _ (settled work) (old-reads (settled work) keep-settled)
+      (subst (λ (x : Pending). Every (Either s work m) (write ts (sec newWork ts) ∷ settle ∷ r) x) (sym (landed work p₂ t₂))
+      (every-write (Either s work m) ts (sec newWork ts) _ (settled work) (old-reads (settled work) keep-settled)
       (every-settle (Either s work m) r _ both-reads (subst (λ (x : Pending). Every (Either s work m) r x) (sym table-lands) h))))))
 
-  pub sync-play : (r : List Step) → play (syncSteps s card work r) p ≡ play r (settled now)
+  pub sync-play : (r : List Step) → play (syncSteps s card work r) p ≡ play r (settled newWork)
   unfolding syncSteps
   sync-play r =
       play-copy (Either s work m) KeepAll old-reads card work keep-written 1 0 _ p _ (V₀ .keeps) (V₀ .top)
       (λ p₁ k₁ t₁. play-copy (Either s work m) KeepAll old-reads card work keep-written (g .s - g .t - 1) (g .t + 1) _ p₁ _ k₁ t₁ (λ p₂ k₂ t₂. fin p₂ t₂))
     where
-      fin : (p₂ : Pending) → Top work p₂ → play (settle ∷ write ts (sec now ts) ∷ settle ∷ r) p₂ ≡ play r (settled now)
+      fin : (p₂ : Pending) → Top work p₂ → play (settle ∷ write ts (sec newWork ts) ∷ settle ∷ r) p₂ ≡ play r (settled newWork)
       fin p₂ t₂ =
           unfold play in
-          (ap (λ (x : Pending). play r (λ i. newest (written ts (sec now ts) x i))) (landed work p₂ t₂) ∙ ap (λ (x : Pending). play r x) table-lands)
+          (ap (λ (x : Pending). play r (λ i. newest (written ts (sec newWork ts) x i))) (landed work p₂ t₂) ∙ ap (λ (x : Pending). play r x) table-lands)
 
   -- ---- the card itself
 
@@ -121,7 +121,7 @@ module _ (s : Opened) (card work : List ℕ) (p : Pending) (m : List Item) (V₀
   table-old i h = V₀ .keeps i (sec card i) (V₀ .may i) .fixed h ∙ sym (keeps-work i .fixed h)
 
   -- the steps of a sync leave the working image with word c set, and go on from it
-  pub sync-card : (r : List Step) → applySteps (syncSteps s card work r) card ≡ applySteps r now
+  pub sync-card : (r : List Step) → applySteps (syncSteps s card work r) card ≡ applySteps r newWork
   unfolding allSteps
   sync-card r = sync-same-card s card work r ∙ one (copied (g .s) 1 0 work card _ (V₀ .sized) (F .sized) (omega (arith, L .sLow, L .past, L .dir)))
     where
@@ -129,29 +129,29 @@ module _ (s : Opened) (card work : List ℕ) (p : Pending) (m : List Item) (V₀
       L = limits g (F .shape)
 
       tail : List Step
-      tail = settle ∷ write ts (sec now ts) ∷ settle ∷ r
+      tail = settle ∷ write ts (sec newWork ts) ∷ settle ∷ r
 
       two : (A : Copied (g .s) 0 1 work card (copySteps work (g .t + 1) (g .s - g .t - 1) tail) (applySteps (allSteps s work r) card))
           → Copied (g .s) (g .t + 1) (g .s - g .t - 1) work (A .card′) tail (applySteps (copySteps work (g .t + 1) (g .s - g .t - 1) tail) (A .card′))
-          → applySteps (allSteps s work r) card ≡ applySteps r now
+          → applySteps (allSteps s work r) card ≡ applySteps r newWork
       two A B = A .ends ∙ B .ends ∙ (unfold applySteps in (ap (λ (x : List ℕ). applySteps r x) last))
         where
-          wd : length (sec now ts) ≡ 512
-          wd = sec-in now (g .s) ts (sync-length s work F live) (inside s work F live)
+          wd : length (sec newWork ts) ≡ 512
+          wd = sec-in newWork (g .s) ts (sync-length s work F live) (inside s work F live)
 
           body : (i : ℕ) → i < g .s → Dec (i ≤ g .t) → Dec (i ≡ 0) → sec (B .card′) i ≡ sec work i
           body i l (yes a) (yes z) = B .there i (λ q. omega (arith, q .0)) ∙ A .here i (omega arith) (omega arith)
           body i l (yes a) (no z) = B .there i (λ q. omega (arith, q .0)) ∙ A .there i (λ q. omega (arith, q .1)) ∙ table-old i a
           body i l (no a) d = B .here i (omega arith) (omega arith)
 
-          pick : (i : ℕ) → i < g .s → Dec (i ≡ ts) → sec (setSec (B .card′) ts (sec now ts)) i ≡ sec now i
+          pick : (i : ℕ) → i < g .s → Dec (i ≡ ts) → sec (setSec (B .card′) ts (sec newWork ts)) i ≡ sec newWork i
           pick i l (yes e) = rw e (set-here (g .s) (B .card′) _ ts (B .sized) (inside s work F live) wd)
           pick i l (no o) =
               set-there (g .s) (B .card′) _ ts (B .sized) (inside s work F live) wd i o ∙ body i l (decLe i (g .t)) (ℕ-discrete i 0) ∙ sym (sync-other s work F live i o)
 
-          last : setSec (B .card′) ts (sec now ts) ≡ now
+          last : setSec (B .card′) ts (sec newWork ts) ≡ newWork
           last =
-              image-same _ now (g .s) (setSec-length (B .card′) ts (sec now ts) ∙ B .sized) (sync-length s work F live) (λ i l. pick i l (ℕ-discrete i ts))
+              image-same _ newWork (g .s) (setSec-length (B .card′) ts (sec newWork ts) ∙ B .sized) (sync-length s work F live) (λ i l. pick i l (ℕ-discrete i ts))
 
-      one : Copied (g .s) 0 1 work card (copySteps work (g .t + 1) (g .s - g .t - 1) tail) (applySteps (allSteps s work r) card) → applySteps (allSteps s work r) card ≡ applySteps r now
+      one : Copied (g .s) 0 1 work card (copySteps work (g .t + 1) (g .s - g .t - 1) tail) (applySteps (allSteps s work r) card) → applySteps (allSteps s work r) card ≡ applySteps r newWork
       one A = two A (copied (g .s) (g .s - g .t - 1) (g .t + 1) work (A .card′) tail (A .sized) (F .sized) (omega (arith, L .sLow, L .past, L .dir)))

@@ -73,11 +73,11 @@ module _ (s : Opened) (j a k : ℕ) (v : Version) (card work n d : List ℕ) (p 
   abbrev g : Geo
   g = s .geo
 
-  abbrev now : List ℕ
-  now = editWork s j a k v work n d
+  abbrev newWork : List ℕ
+  newWork = editWork s j a k v work n d
 
   -- a sector that it does not hit
-  not-hit : (i : ℕ) → gDir g ≤ i → hitBy s j a k i ≡ false → sec now i ≡ sec work i
+  not-hit : (i : ℕ) → gDir g ≤ i → hitBy s j a k i ≡ false → sec newWork i ≡ sec work i
   unfolding hitBy
   not-hit i lo z =
       let (x, y) = neither (eqb i (spotOf g j .sector)) (leb a i && ltb i (a + k)) z in
@@ -105,21 +105,21 @@ module _ (s : Opened) (j a k : ℕ) (v : Version) (card work n d : List ℕ) (p 
   none-of b (suc l) f h = absurd (h (b / 4096) (omega arith) (omega arith, refl))
 
   -- and one more value of it, the same
-  one-more : (i : ℕ) → sec now i ≡ sec work i → OneValue (p i) → OneValue (allWritten now p i)
+  one-more : (i : ℕ) → sec newWork i ≡ sec work i → OneValue (p i) → OneValue (allWritten newWork p i)
   unfolding allWritten
   one-more i e o x y u w = go (mem-cases u) (mem-cases w)
     where
-      here : List·Memᴰ (sec now i) (p i)
+      here : List·Memᴰ (sec newWork i) (p i)
       here = rw e (top-mem (p i) (V₀ .top i))
 
-      go : (x ≡ sec now i) ⊎ List·Memᴰ x (p i) → (y ≡ sec now i) ⊎ List·Memᴰ y (p i) → x ≡ y
+      go : (x ≡ sec newWork i) ⊎ List·Memᴰ x (p i) → (y ≡ sec newWork i) ⊎ List·Memᴰ y (p i) → x ≡ y
       go (inl f) (inl g) = cc
-      go (inl f) (inr g) = f ∙ o (sec now i) y here g
-      go (inr f) (inl g) = o x (sec now i) f here ∙ sym g
+      go (inl f) (inr g) = f ∙ o (sec newWork i) y here g
+      go (inr f) (inl g) = o x (sec newWork i) f here ∙ sym g
       go (inr f) (inr g) = o x y f g
 
   pub touched-more : (M : Marks) → Unmarked s p M
-      → Unmarked s (allWritten now p) (record { sectors = λ i. hitBy s j a k i || M .sectors i; pages = λ q. bitsIn s work j a k q || M .pages q })
+      → Unmarked s (allWritten newWork p) (record { sectors = λ i. hitBy s j a k i || M .sectors i; pages = λ q. bitsIn s work j a k q || M .pages q })
   touched-more M T =
       record {
         sector = λ i lo z. let (x, y) = neither (hitBy s j a k i) (M .sectors i) z in one-more i (not-hit i lo x) (T .sector i lo y);
@@ -132,7 +132,7 @@ module _ (s : Opened) (j a k : ℕ) (v : Version) (card work n d : List ℕ) (p 
             (T .index (λ q l. neither (bitsIn s work j a k q) (M .pages q) (z q l) .1));
       }
     where
-      index-stays : ((q : ℕ) → q < gP g → bitsIn s work j a k q ≡ false) → sec now (g .t + 1) ≡ sec work (g .t + 1)
+      index-stays : ((q : ℕ) → q < gP g → bitsIn s work j a k q ≡ false) → sec newWork (g .t + 1) ≡ sec work (g .t + 1)
       index-stays z =
           unfold indexIn in
           index-kept s j a k v work n d (sec work) R (none-of a k (R .fits) (λ q l. no-bit q (z q l) .0))

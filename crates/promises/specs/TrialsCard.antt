@@ -22,7 +22,7 @@ use Rattle.card.specs.Sound.{viewOk, soundIn, shapeOk, sound}
 use Rattle.card.specs.Make.{blockBytes, freshGroup, freshGroups, freshIndex, freshPages, freshCard}
 use Rattle.card.specs.Reading.{filesIn, filesShown, pageShown}
 use Rattle.session.specs.Views.{ownStamp, presentView, presentTable, cutTable, presentPage, cutPage, presentFiles, sessionFiles}
-use Rattle.session.specs.Fits.{sizesOk, headOk, wordOk, stampAtMost, entryAtMost, groupAtMost, indexAtMost, fitsIn, fits}
+use Rattle.session.specs.Fits.{sizesOk, headOk, wordOk, stampAtMost, entryAtMost, groupAtMost, indexAtMost, tableFits, viewsFit, stampsFit, fitsIn, fits}
 use Rattle.store.specs.Steps.{setCount, setWord, tableSector, mountSteps, syncSteps, atTop, syncWork}
 use Rattle.store.specs.Mount.{mountPlan, openedFrom}
 use Rattle.store.specs.Edit.{orElse, putPlace, placeIn, runIn, putPlan, putContent, editWork, putRun, putWork}
@@ -78,7 +78,7 @@ workB = putWork (stretch 2) 1 7 workS b seven
 
 -- one name that opens what these compute with
 unfoldable pub computes : ℕ
-unfolding start workA cardS workS workB shownIn items lineName lookup inRun every pairwise firstAt eqList part over splice setPart pad wordAt words wordBytes sec setSec applySteps unless diffSteps gN gF gDir gP geoOk countOf geoOf tableFrom tableOf stampOf alive showing stampOk deadBelow tableOk tableIn asIs sameStamp standing becomesOld versionOf versionBytes newOf oldOf nameBytes entryOf entryRest entryBytes shownBytes shown goodName nameOf nameOk sectorsFor piecesOf pieceOk runOk versionOk entryOk changed sectorEntries entriesFrom entriesOf spotsFrom spotOf setEntry gone apart named bitAt putDigit putBit setRun bitsN bitsOf clearIn clearBits merge allClear findRun lowestRun runFor outside wanted bitsOk bytesToS pageOk dataFrom dataTo freshPage indexOf groupBytes groupOf everyGroup indexIn pairOk groupOk indexOk shownPage pageAt mapFrom pageIn changedIndex pageBefore changedRun changeRun changeBits guard need ended refused done consFile filesOf inPieces holdsAt cover piecesIn contentOf runOf runAt viewOk soundIn shapeOk sound blockBytes freshGroup freshGroups freshIndex freshPages freshCard filesIn filesShown pageShown ownStamp presentView presentTable cutTable presentPage cutPage presentFiles sessionFiles sizesOk headOk wordOk stampAtMost entryAtMost groupAtMost indexAtMost fitsIn fits setCount setWord tableSector mountSteps syncSteps atTop syncWork mountPlan openedFrom orElse putPlace placeIn runIn putPlan putContent editWork putRun putWork bothPlan grown runAfter goalRun
+unfolding start workA cardS workS workB shownIn items lineName lookup inRun every pairwise firstAt eqList part over splice setPart pad wordAt words wordBytes sec setSec applySteps unless diffSteps gN gF gDir gP geoOk countOf geoOf tableFrom tableOf stampOf alive showing stampOk deadBelow tableOk tableIn asIs sameStamp standing becomesOld versionOf versionBytes newOf oldOf nameBytes entryOf entryRest entryBytes shownBytes shown goodName nameOf nameOk sectorsFor piecesOf pieceOk runOk versionOk entryOk changed sectorEntries entriesFrom entriesOf spotsFrom spotOf setEntry gone apart named bitAt putDigit putBit setRun bitsN bitsOf clearIn clearBits merge allClear findRun lowestRun runFor outside wanted bitsOk bytesToS pageOk dataFrom dataTo freshPage indexOf groupBytes groupOf everyGroup indexIn pairOk groupOk indexOk shownPage pageAt mapFrom pageIn changedIndex pageBefore changedRun changeRun changeBits guard need ended refused done consFile filesOf inPieces holdsAt cover piecesIn contentOf runOf runAt viewOk soundIn shapeOk sound blockBytes freshGroup freshGroups freshIndex freshPages freshCard filesIn filesShown pageShown ownStamp presentView presentTable cutTable presentPage cutPage presentFiles sessionFiles sizesOk headOk wordOk stampAtMost entryAtMost groupAtMost indexAtMost tableFits viewsFit stampsFit fitsIn fits setCount setWord tableSector mountSteps syncSteps atTop syncWork mountPlan openedFrom orElse putPlace placeIn runIn putPlan putContent editWork putRun putWork bothPlan grown runAfter goalRun
 computes = 0
 
 -- mount goes through, and opens the session at t = 1

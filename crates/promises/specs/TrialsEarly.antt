@@ -56,10 +56,10 @@ early-done = rw b-goes
 -- it is refused
 pub word-early : ¬ PutsRead earlyPut
 unfolding synced
-word-early h = clash (reads-sound (now earlyLanded left)) (early-reads .2)
+word-early h = clash (reads-sound (reads-now earlyLanded left)) (early-reads .2)
   where
-    now : CutsRead (mk cardS workEarly (Open (stretch 2)) (allWritten workEarly (synced .pending)) (synced .last))
-    now = unfold synced edited byNumber done in rw early-done at (h synced reach-synced b seven)
+    reads-now : CutsRead (mk cardS workEarly (Open (stretch 2)) (allWritten workEarly (synced .pending)) (synced .last))
+    reads-now = unfold synced edited byNumber done in rw early-done at (h synced reach-synced b seven)
 
     left : Left (allWritten workEarly (synced .pending)) (length cardS) earlyLanded
     left = unfold synced in some-landed (synced .pending) cardS workEarly earlyLanded (card-possible synced reach-synced .0) (unfold earlyLanded in (setSec-length _ 1 _ ∙ setSec-length cardS 5 (sec workEarly 5))) early-each

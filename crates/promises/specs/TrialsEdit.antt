@@ -68,9 +68,9 @@ pub one-shows : (w : World) → Reach w → (r : Changed) (S i : ℕ) → r .ans
     → shownBy (setSec (w .card) i (sec (r .image) i)) ≢ w .last → ¬ CutsRead (edited w r)
 unfolding edited byNumber
 one-shows w reach r S i z l m h o c =
-    let now : CutsRead (mk (w .card) (r .image) (w .session) (allWritten (r .image) (w .pending)) (w .last)) = rw z at c in
+    let reads-now : CutsRead (mk (w .card) (r .image) (w .session) (allWritten (r .image) (w .pending)) (w .last)) = rw z at c in
     let k = some-landed (w .pending) (w .card) (r .image) _ (card-possible w reach .0) (setSec-length (w .card) i (sec (r .image) i)) (one-landed S i (w .card) (r .image) l m h) in
-    o (now (setSec (w .card) i (sec (r .image) i)) k .shows)
+    o (reads-now (setSec (w .card) i (sec (r .image) i)) k .shows)
 
 -- ---- the builds: put, by any choice of the entry and of the run
 

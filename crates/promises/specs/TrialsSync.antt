@@ -40,8 +40,8 @@ pub only-says : (w : World) → Reach w → (r : Ended) → r .answer .number �
 unfolding stepped play byNumber
 only-says w reach r z l o h =
     let (left, reads) = card-possible w reach in
-    let now : CutsRead (record { card = r .card; work = r .work; session = r .session; pending = w .pending; last = shownIn (w .session) (w .work) }) = rw z at h in
-    o (sym (now (w .card) (rw l left) .shows) ∙ reads .shows)
+    let reads-now : CutsRead (record { card = r .card; work = r .work; session = r .session; pending = w .pending; last = shownIn (w .session) (w .work) }) = rw z at h in
+    o (sym (reads-now (w .card) (rw l left) .shows) ∙ reads .shows)
 
 -- ---- "one whose first sync lands and whose later ones only say so"
 

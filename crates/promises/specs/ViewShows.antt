@@ -127,7 +127,7 @@ module _ (g : Geo) (bound : ℕ) (tab tc img : List ℕ) (ok : geoOk g ≡ true)
           rw (e, look-at n j e) (fill-or-10 out j (found-length n j e) (leb (runAt g tab img j .bytes) (length out)) refl)
 
   pub view-list : (lines : List Line) → length (listOf tab img ps) ≤ length lines
-      → listEnd (filesOf tab ps) lines (listPlan (filesOf tab ps) lines)
+      → listEnd (filesOf tab ps) lines (listPlan (filesOf tab ps) (length lines))
       ≡ record { answer = done (length (listOf tab img ps)); lines = filesOf tab ps ++ drop (length (listOf tab img ps)) lines }
   unfolding listEnd listPlan guard ended
   view-list lines h =

@@ -24,7 +24,7 @@ use Rattle.promises.specs.History.{Left, World, Call, makeC, mountC, syn
 use Rattle.promises.specs.Whole.{ReadsAs, LooksAs}
 use Rattle.promises.specs.Field.{SoundCard, Since}
 
--- ---- "At 2,147,483,647, what does the next sync do?"
+-- ---- the tester: at 2,147,483,647, what does the next sync do?
 
 -- "At t = 2,147,483,647 it lands too, t stays, and the session is worn"
 pub record LandsAndWears (w : World) (s : Opened) : Type 0 where
@@ -52,7 +52,7 @@ ends freeC = false
 
 -- a worn session: "no further change"
 pub record OnlyLooks (w : World) (s : Opened) : Type 0 where
-  -- "9: change or sync in a worn session", whatever is asked
+  -- 9, "change or sync in a worn session", whatever is asked
   pub puts : (n d : List ℕ) (goal : ℕ) → putAt (w .session) (w .work) n d goal .answer .number ≡ 9
   pub removes : (n : List ℕ) → remove (w .session) (w .work) n .answer .number ≡ 9
   pub syncs : sync (w .session) (w .card) (w .work) .answer .number ≡ 9
@@ -90,7 +90,7 @@ pub record CountsHold (w : World) : Type 0 where
 abbrev pub NoCountAbove : Type 0
 NoCountAbove = (w : World) → Since w → CountsHold w
 
--- ---- "65,536 crashes. And the one after the last?"
+-- ---- the tester: 65,536 crashes, and the one after the last?
 
 -- "mount of a sound card with C = N" gives 3, changes nothing, and reading goes on
 pub record StillReads (card work : List ℕ) : Type 0 where
@@ -100,7 +100,7 @@ pub record StillReads (card work : List ℕ) : Type 0 where
 abbrev pub CountsUsedUp : Type 0
 CountsUsedUp = (card work : List ℕ) → SoundCard card → length work ≡ length card → countOf (sec card) ≡ gN (geoOf (sec card)) → StillReads card work
 
--- ---- "Stamps from a session yet to come"
+-- ---- the tester: stamps from a session yet to come
 
 -- a stamp is alive in both views of a session exactly when it was alive by the table
 abbrev pub LivesOn : List ℕ → Session → List ℕ → Stamp → Type 0

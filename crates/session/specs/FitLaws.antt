@@ -1,15 +1,15 @@
 -- A session that fits, taken apart: each test by its name, and put together; the present view of a session that is not worn. Assumes nothing.
-use mathlib.Core.Path.{_≡_, sym, ap}
+use mathlib.Core.Path.{_≡_, refl, sym, ap}
 use mathlib.Core.Logic.{inr}
-use mathlib.Core.Bool.{Bool, true, false, not, _&&_, _||_}
+use mathlib.Core.Bool.{Bool, true, false, cond, not, _&&_, _||_}
 use mathlib.Core.List.{List}
-use Prim.Native.Nat.{ℕ, _+_, _*_, _≤_, _<_}
+use Prim.Native.Nat.{ℕ, _+_, _-_, _*_, _≤_, _<_}
 use native.Mathlib.Omega.{arith}
 use native.Mathlib.Decide.{ℕ-discrete}
 use borrow.Author.Tests.{eqb-true, ltb-true, leb-true, eq-eqb, ne-eqb, lt-ltb, le-leb}
 use lib.Dec.{leb, eqb}
 use lib.ListN.{length, drop, getD, set}
-use lib.Seq.{set-out}
+use lib.Seq.{set-out, set-getD}
 use Rattle.words.specs.Lists.{every, pairwise, isZero}
 use Rattle.words.specs.BoolLaws.{both, join, or-intro, falsum}
 use Rattle.sectors.specs.Sectors.{Cells, sec}
@@ -18,14 +18,14 @@ use Rattle.counts.specs.declared.Stamp.{Stamp}
 use Rattle.counts.specs.Geometry.{gN, gP, geoOk, geoOf, countOf, tableOf}
 use Rattle.counts.specs.GeoLaws.{geo-eq}
 use Rattle.counts.specs.TableLaws.{ok-laid, table-length}
-use Rattle.counts.specs.Stamps.{maxTx, wordMax, stampOf, tableIn, asIs}
+use Rattle.counts.specs.Stamps.{maxTx, wordMax, wordsOk, stampOf, tableIn, asIs}
 use Rattle.directory.specs.Directory.{entriesOf, apart}
 use Rattle.apages.specs.Index.{indexIn, groupOf}
 use Rattle.apages.specs.PassLaws.{groups-inv, groups-intro}
 use Rattle.card.specs.Sound.{viewOk}
 use Rattle.session.specs.declared.Opened.{Opened}
-use Rattle.session.specs.Views.{presentView, presentTable, cutTable}
-use Rattle.session.specs.Fits.{sizesOk, headOk, wordOk, stampAtMost, entryAtMost, groupAtMost, indexAtMost, fitsIn, fits}
+use Rattle.session.specs.Views.{presentView, presentTable, cutView, cutTable}
+use Rattle.session.specs.Fits.{sizesOk, headOk, wordOk, stampAtMost, entryAtMost, groupAtMost, indexAtMost, tableFits, viewsFit, stampsFit, fitsIn, fits}
 
 pub record Fit (s : Opened) (work : List ℕ) : Type 0 where
   pub shape : geoOk (s .geo) ≡ true
@@ -44,25 +44,23 @@ pub record Fit (s : Opened) (work : List ℕ) : Type 0 where
   pub index : indexAtMost s (indexIn (s .geo) (sec work)) ≡ true
 
 pub fit-inv : (s : Opened) (work : List ℕ) → fits s work ≡ true → Fit s work
-unfolding fits sizesOk fitsIn cutTable
+unfolding fits sizesOk fitsIn tableFits viewsFit stampsFit cutTable
 fit-inv s work h =
     let k = sec work in
     let tc = tableOf (s .geo) k in
-    let (x, y) = both _ (headOk s k && wordOk (s .worn) (s .t .0) (getD tc (s .c .0) 0) && every wordMax tc && every isZero (drop (s .c .0 + 1) tc)
-    && viewOk (s .geo) (s .c .0) (presentTable s k) k && viewOk (s .geo) (gN (s .geo)) tc k && pairwise (apart (presentTable s k) tc) (entriesOf (s .geo) k)
-    && every (entryAtMost s) (entriesOf (s .geo) k) && indexAtMost s (indexIn (s .geo) k)) h in
+    let (x, y) = both _ (tableFits s k && viewsFit s k && stampsFit s k) h in
     let (x₁, a₅) = both _ (eqb (length work) (512 * s .geo .s)) x in
     let (x₂, a₄) = both _ (leb (s .t .0) maxTx) x₁ in
     let (x₃, a₃) = both _ (leb 1 (s .t .0)) x₂ in
     let (a₁, a₂) = both (geoOk (s .geo)) _ x₃ in
-    let (y₁, b₉) = both _ (indexAtMost s (indexIn (s .geo) k)) y in
-    let (y₂, b₈) = both _ (every (entryAtMost s) (entriesOf (s .geo) k)) y₁ in
-    let (y₃, b₇) = both _ (pairwise (apart (presentTable s k) tc) (entriesOf (s .geo) k)) y₂ in
-    let (y₄, b₆) = both _ (viewOk (s .geo) (gN (s .geo)) tc k) y₃ in
-    let (y₅, b₅) = both _ (viewOk (s .geo) (s .c .0) (presentTable s k) k) y₄ in
-    let (y₆, b₄) = both _ (every isZero (drop (s .c .0 + 1) tc)) y₅ in
-    let (y₇, b₃) = both _ (every wordMax tc) y₆ in
-    let (b₁, b₂) = both (headOk s k) _ y₇ in
+    let (p, stamps) = both _ (stampsFit s k) y in
+    let (table, views) = both (tableFits s k) (viewsFit s k) p in
+    let (q, w) = both _ (wordsOk (s .c .0) tc) table in
+    let (b₁, b₂) = both (headOk s k) (wordOk (s .worn) (s .t .0) (getD tc (s .c .0) 0)) q in
+    let (b₃, b₄) = both (every wordMax tc) (every isZero (drop (s .c .0 + 1) tc)) w in
+    let (v, b₇) = both _ (pairwise (apart (presentTable s k) tc) (entriesOf (s .geo) k)) views in
+    let (b₅, b₆) = both (viewOk (s .geo) (s .c .0) (presentTable s k) k) (viewOk (s .geo) (gN (s .geo)) tc k) v in
+    let (b₈, b₉) = both (every (entryAtMost s) (entriesOf (s .geo) k)) (indexAtMost s (indexIn (s .geo) k)) stamps in
     record {
       shape = a₁;
       count = ltb-true _ _ a₂;
@@ -81,13 +79,13 @@ fit-inv s work h =
     }
 
 pub fit-intro : (s : Opened) (work : List ℕ) → Fit s work → fits s work ≡ true
-unfolding fits sizesOk fitsIn cutTable
+unfolding fits sizesOk fitsIn tableFits viewsFit stampsFit cutTable
 fit-intro s work F =
     join _ _
     (join _ _ (join _ _ (join _ _ (join _ _ (F .shape) (lt-ltb _ _ (F .count))) (le-leb _ _ (F .low))) (le-leb _ _ (F .tx))) (eq-eqb _ _ (F .sized)))
     (join _ _
-    (join _ _ (join _ _ (join _ _ (join _ _ (join _ _ (join _ _ (join _ _ (F .head) (F .word)) (F .max)) (F .past)) (F .presView)) (F .cutView)) (F .alone)) (F .stamps))
-    (F .index))
+    (join _ _ (join _ _ (join _ _ (F .head) (F .word)) (join _ _ (F .max) (F .past))) (join _ _ (join _ _ (F .presView) (F .cutView)) (F .alone)))
+    (join _ _ (F .stamps) (F .index)))
 
 -- ---- the head of sector 0
 
@@ -153,7 +151,29 @@ word-live s x e h = go (s .worn) e h
     go true e h = falsum (sym e)
     go false e h = unfold wordOk in eqb-true _ _ h
 
+-- ---- the cut view
+
+-- the table as it is, where word c of it is t − 1 (worn: whatever it is)
+pub cut-literal : (s : Opened) (k : Cells) → length (tableOf (s .geo) k) ≡ gN (s .geo) → wordOk (s .worn) (s .t .0) (getD (tableOf (s .geo) k) (s .c .0) 0) ≡ true
+    → tableIn (s .geo) (cutView s) k ≡ cutTable s k
+unfolding cutTable cutView tableIn asIs
+cut-literal s k l h = go (s .worn) refl
+  where
+    T : List ℕ
+    T = tableOf (s .geo) k
+
+    go : (b : Bool) → s .worn ≡ b → tableIn (s .geo) (cond b (asIs (s .geo)) (record { c = s .c; t = record { 0 = s .t .0 - 1 } })) k ≡ T
+    go true e = set-out _ _ _ (omega arith)
+    go false e =
+        let w = word-live s (getD T (s .c .0) 0) e h in
+        let z : s .t .0 - 1 ≡ getD T (s .c .0) 0 = omega (arith, w) in
+        rw z (set-getD T (s .c .0) 0)
+
 -- the table of a fitting session has N words
 pub fit-table : (g : Geo) (img : List ℕ) → geoOk g ≡ true → length img ≡ 512 * g .s → length (tableOf g (sec img)) ≡ gN g
 unfolding gN
 fit-table g img ok l = table-length g img (ok-laid g img ok l)
+
+-- in a session that fits the cut view takes the table as it is
+pub cut-table : (s : Opened) (work : List ℕ) → fits s work ≡ true → tableIn (s .geo) (cutView s) (sec work) ≡ cutTable s (sec work)
+cut-table s work h = let F = fit-inv s work h in cut-literal s (sec work) (fit-table (s .geo) work (F .shape) (F .sized)) (F .word)

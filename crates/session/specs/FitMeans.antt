@@ -7,17 +7,22 @@ use Prim.Native.Nat.{ℕ, _+_, _*_, _≤_, _<_}
 use lib.ListN.{length, getD}
 use Rattle.sectors.specs.Sectors.{sec}
 use Rattle.counts.specs.Geometry.{gN, geoOf, countOf, tableOf}
+use Rattle.counts.specs.Stamps.{tableIn}
 use Rattle.card.specs.Means.{InLimits, EachStamp, DeadBelow, NoTwoAlike, ZerosFrom, ShowsFile, View}
 use Rattle.session.specs.declared.Opened.{Opened}
-use Rattle.session.specs.Views.{presentTable, cutTable}
+use Rattle.session.specs.Views.{presentTable, cutView}
 
 -- word i of the working image's table
 abbrev pub word : Opened → List ℕ → ℕ → ℕ
 word s work i = getD (tableOf (s .geo) (sec work)) i 0
 
+-- "the cut view takes it as t − 1": the table so taken
+abbrev pub cutWords : Opened → List ℕ → List ℕ
+cutWords s work = tableIn (s .geo) (cutView s) (sec work)
+
 -- a file is present in either view of an entry
 abbrev pub InEither : Opened → List ℕ → List ℕ → Type 0
-InEither s work p = ShowsFile (presentTable s (sec work)) p ⊎ ShowsFile (cutTable s (sec work)) p
+InEither s work p = ShowsFile (presentTable s (sec work)) p ⊎ ShowsFile (cutWords s work) p
 
 pub record Fits (s : Opened) (work : List ℕ) : Type 0 where
   -- "its geometry is inside the limits, c is below N and t from 1 to 2,147,483,647"
@@ -38,7 +43,7 @@ pub record Fits (s : Opened) (work : List ℕ) : Type 0 where
   pub past : (i : ℕ) → s .c .0 < i → i < gN (s .geo) → word s work i ≡ 0
   -- "each view passes the entry, index and bitmap rules"
   pub present : View (s .geo) (presentTable s (sec work)) work
-  pub cut : View (s .geo) (cutTable s (sec work)) work
+  pub cut : View (s .geo) (cutWords s work) work
   -- "no name is present in either view of two entries"
   pub alone : NoTwoAlike (s .geo) work (InEither s work)
   -- "stamps dead in the present view have cc below c, and stamps at c have txc at most t"

@@ -11,15 +11,15 @@ use Rattle.words.specs.BoolLaws.{both, join, falsum}
 use Rattle.words.specs.EveryLaws.{every-at, every-all}
 use Rattle.sectors.specs.Sectors.{sec}
 use Rattle.counts.specs.Geometry.{gN, tableOf}
-use Rattle.counts.specs.Stamps.{maxTx, stampOf}
+use Rattle.counts.specs.Stamps.{maxTx, stampOf, tableIn}
 use Rattle.directory.specs.Directory.{entriesOf}
 use Rattle.apages.specs.Index.{groupOf, indexIn}
 use Rattle.card.specs.MeansParts.{limits-mean, zeros-mean, words-mean, past-means}
 use Rattle.card.specs.MeansProved.{view-says, says-view, alone-means}
 use Rattle.session.specs.declared.Opened.{Opened}
-use Rattle.session.specs.Views.{presentTable, cutTable}
+use Rattle.session.specs.Views.{presentTable, cutView, cutTable}
 use Rattle.session.specs.Fits.{wordOk, entryAtMost, fits}
-use Rattle.session.specs.FitLaws.{fit-inv, fit-intro, head-inv, head-intro, at-most, at-most-intro, index-most, index-most-intro, fit-table}
+use Rattle.session.specs.FitLaws.{fit-inv, fit-intro, head-inv, head-intro, at-most, at-most-intro, index-most, index-most-intro, cut-literal, fit-table}
 use Rattle.session.specs.FitMeans.{Fits}
 
 word-says : (b : Bool) (t x : ℕ) → wordOk b t x ≡ true → (b ≡ false → x + 1 ≡ t) × (b ≡ true → (t ≡ maxTx) × (x ≡ maxTx))
@@ -41,6 +41,7 @@ module _ (s : Opened) (work : List ℕ) where
       let n = fit-table (s .geo) work (F .shape) (F .sized) in
       let (P, D) = view-says (s .geo) (s .c .0) (presentTable s (sec work)) work (F .shape) (F .sized) (F .presView) in
       let w = word-says (s .worn) (s .t .0) (getD (tableOf (s .geo) (sec work)) (s .c .0) 0) (F .word) in
+      let z : tableIn (s .geo) (cutView s) (sec work) ≡ tableOf (s .geo) (sec work) = cut-literal s (sec work) n (F .word) in
       record {
         limits = limits-mean (s .geo) .0 (F .shape);
         c = F .count;
@@ -55,8 +56,8 @@ module _ (s : Opened) (work : List ℕ) where
         words = words-mean (gN (s .geo)) (tableOf (s .geo) (sec work)) n .0 (F .max);
         past = past-means (gN (s .geo)) (tableOf (s .geo) (sec work)) n (s .c .0) .0 (F .past);
         present = P;
-        cut = view-says (s .geo) (gN (s .geo)) (tableOf (s .geo) (sec work)) work (F .shape) (F .sized) (F .cutView) .0;
-        alone = alone-means (presentTable s (sec work)) (tableOf (s .geo) (sec work)) (s .geo) work .0 (F .alone);
+        cut = rw z (view-says (s .geo) (gN (s .geo)) (tableOf (s .geo) (sec work)) work (F .shape) (F .sized) (F .cutView) .0);
+        alone = rw z (alone-means (presentTable s (sec work)) (tableOf (s .geo) (sec work)) (s .geo) work .0 (F .alone));
         dead = D;
         atC = (
           λ p l. at-most s (stampOf (groupOf (indexIn (s .geo) (sec work)) p)) (index-most s (indexIn (s .geo) (sec work)) (F .index) p l),
@@ -69,6 +70,8 @@ module _ (s : Opened) (work : List ℕ) where
   says-fits F =
       let ok = limits-mean (s .geo) .1 (F .limits) in
       let n = fit-table (s .geo) work ok (F .sized) in
+      let w = says-word (s .worn) (s .t .0) (getD (tableOf (s .geo) (sec work)) (s .c .0) 0) (F .wordC) (F .wornC) in
+      let z : tableIn (s .geo) (cutView s) (sec work) ≡ tableOf (s .geo) (sec work) = cut-literal s (sec work) n w in
       fit-intro s work
       (record {
         shape = ok;
@@ -77,14 +80,14 @@ module _ (s : Opened) (work : List ℕ) where
         tx = F .tMost;
         sized = F .sized;
         head = head-intro s (sec work) (record { count = F .count; geo = F .geo; tail = zeros-mean 16 (sec work 0) .1 (F .headRest) });
-        word = says-word (s .worn) (s .t .0) (getD (tableOf (s .geo) (sec work)) (s .c .0) 0) (F .wordC) (F .wornC);
+        word = w;
         max = words-mean (gN (s .geo)) (tableOf (s .geo) (sec work)) n .1 (F .words);
         past = past-means (gN (s .geo)) (tableOf (s .geo) (sec work)) n (s .c .0) .1 (F .past);
         presView = says-view (s .geo) (s .c .0) (presentTable s (sec work)) work ok (F .sized) (F .present) (F .dead);
         -- every stamp has cc below N
-        cutView = says-view (s .geo) (gN (s .geo)) (tableOf (s .geo) (sec work)) work ok (F .sized) (F .cut)
+        cutView = says-view (s .geo) (gN (s .geo)) (tableOf (s .geo) (sec work)) work ok (F .sized) (rw z at (F .cut))
             (λ p l o. F .cut .stamps .0 p l .0, λ i l o. F .cut .stamps .1 i l .0);
-        alone = alone-means (presentTable s (sec work)) (tableOf (s .geo) (sec work)) (s .geo) work .1 (F .alone);
+        alone = alone-means (presentTable s (sec work)) (tableOf (s .geo) (sec work)) (s .geo) work .1 (rw z at (F .alone));
         stamps = every-all (entryAtMost s) (entriesOf (s .geo) (sec work)) [] (λ i l. at-most-intro s (stampOf (getD (entriesOf (s .geo) (sec work)) i [])) (F .atC .1 i l));
         index = index-most-intro s (indexIn (s .geo) (sec work)) (λ p l. at-most-intro s (stampOf (groupOf (indexIn (s .geo) (sec work)) p)) (F .atC .0 p l));
       })

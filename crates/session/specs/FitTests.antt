@@ -24,40 +24,39 @@ use Rattle.apages.specs.Index.{indexIn}
 use Rattle.card.specs.Sound.{viewOk}
 use Rattle.session.specs.declared.Opened.{Opened}
 use Rattle.session.specs.Views.{presentView, presentTable, cutTable}
-use Rattle.session.specs.Fits.{sizesOk, headOk, wordOk, entryAtMost, indexAtMost, fitsIn, fits}
+use Rattle.session.specs.Fits.{sizesOk, headOk, wordOk, entryAtMost, indexAtMost, tableFits, viewsFit, stampsFit, fitsIn, fits}
 
 -- ---- the test in three parts
 
--- the counts and the table
-unfoldable pub tableFits : Opened → Cells → Bool
-tableFits s k =
-    headOk s k && wordOk (s .worn) (s .t .0) (getD (cutTable s k) (s .c .0) 0) && every wordMax (cutTable s k) && every isZero (drop (s .c .0 + 1) (cutTable s k))
+and-assoc : (a b c : Bool) → (a && b && c) ≡ (a && (b && c))
+and-assoc true b c = refl
+and-assoc false b c = refl
 
--- the two views, and names
-unfoldable pub viewsFit : Opened → Cells → Bool
-viewsFit s k =
-    viewOk (s .geo) (s .c .0) (presentTable s k) k && viewOk (s .geo) (gN (s .geo)) (cutTable s k) k
-    && pairwise (apart (presentTable s k) (cutTable s k)) (entriesOf (s .geo) k)
+regroup : (a b c d e f g h i : Bool) → (a && b && c && d && e && f && g && h && i) ≡ (a && b && (c && d) && (e && f && g) && (h && i))
+regroup true true true true true true true h i = refl
+regroup true true true true true true false h i = refl
+regroup true true true true true false g h i = refl
+regroup true true true true false f g h i = refl
+regroup true true true false e f g h i = refl
+regroup true true false d e f g h i = refl
+regroup true false c d e f g h i = refl
+regroup false b c d e f g h i = refl
 
--- the stamps at c
-unfoldable pub stampsFit : Opened → Cells → Bool
-stampsFit s k = every (entryAtMost s) (entriesOf (s .geo) k) && indexAtMost s (indexIn (s .geo) k)
+-- the counts and the table: one test after the other, as code makes them
+pub table-here : (s : Opened) (k : Cells) {h w m z : Bool} → h ≡ headOk s k → w ≡ wordOk (s .worn) (s .t .0) (getD (tableOf (s .geo) k) (s .c .0) 0)
+    → m ≡ every wordMax (tableOf (s .geo) k) → z ≡ every isZero (drop (s .c .0 + 1) (tableOf (s .geo) k)) → (h && w && m && z) ≡ tableFits s k
+unfolding tableFits
+table-here s k {h} {w} {m} {z} eh ew em ez = and-assoc (h && w) m z ∙ rw (eh, ew, em, ez)
 
-four : (a b c d e f g h i : Bool) → (a && b && c && d && (e && f && g) && (h && i)) ≡ (a && b && c && d && e && f && g && h && i)
-four true true true true true true true h i = refl
-four true true true true true true false h i = refl
-four true true true true true false g h i = refl
-four true true true true false f g h i = refl
-four true true true false e f g h i = refl
-four true true false d e f g h i = refl
-four true false c d e f g h i = refl
-four false b c d e f g h i = refl
-
-pub parts : (s : Opened) (k : Cells) → (tableFits s k && viewsFit s k && stampsFit s k) ≡ fitsIn s k
+-- the text of the paragraph, one clause after the other
+pub fits-text : (s : Opened) (k : Cells) → (headOk s k && wordOk (s .worn) (s .t .0) (getD (tableOf (s .geo) k) (s .c .0) 0) && every wordMax (tableOf (s .geo) k)
+    && every isZero (drop (s .c .0 + 1) (tableOf (s .geo) k)) && viewOk (s .geo) (s .c .0) (presentTable s k) k && viewOk (s .geo) (gN (s .geo)) (cutTable s k) k
+    && pairwise (apart (presentTable s k) (cutTable s k)) (entriesOf (s .geo) k) && every (entryAtMost s) (entriesOf (s .geo) k) && indexAtMost s (indexIn (s .geo) k))
+    ≡ fitsIn s k
 unfolding tableFits viewsFit stampsFit fitsIn
-parts s k =
-    four (headOk s k) (wordOk (s .worn) (s .t .0) (getD (cutTable s k) (s .c .0) 0)) (every wordMax (cutTable s k))
-    (every isZero (drop (s .c .0 + 1) (cutTable s k))) (viewOk (s .geo) (s .c .0) (presentTable s k) k) (viewOk (s .geo) (gN (s .geo)) (cutTable s k) k)
+fits-text s k =
+    regroup (headOk s k) (wordOk (s .worn) (s .t .0) (getD (tableOf (s .geo) k) (s .c .0) 0)) (every wordMax (tableOf (s .geo) k))
+    (every isZero (drop (s .c .0 + 1) (tableOf (s .geo) k))) (viewOk (s .geo) (s .c .0) (presentTable s k) k) (viewOk (s .geo) (gN (s .geo)) (cutTable s k) k)
     (pairwise (apart (presentTable s k) (cutTable s k)) (entriesOf (s .geo) k)) (every (entryAtMost s) (entriesOf (s .geo) k)) (indexAtMost s (indexIn (s .geo) k))
 
 -- sector 0, read word by word
@@ -119,5 +118,5 @@ fits-laid s work {r} e n =
 
 pub fits-yes : (s : Opened) (work : List ℕ) {r a b c : Bool} → r ≡ sizesOk s work → not r ≡ false → a ≡ tableFits s (sec work) → b ≡ viewsFit s (sec work)
     → c ≡ stampsFit s (sec work) → (a && b && c) ≡ fits s work
-unfolding fits
-fits-yes s work {r} e n ea eb ec = rw (sym e ∙ not-false r n, ea, eb, ec) (parts s (sec work))
+unfolding fits fitsIn
+fits-yes s work {r} e n ea eb ec = rw (sym e ∙ not-false r n, ea, eb, ec)

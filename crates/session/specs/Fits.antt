@@ -7,8 +7,8 @@ use lib.Dec.{leb, ltb, eqb}
 use Rattle.words.specs.Lists.{every, pairwise, isZero}
 use Rattle.sectors.specs.Sectors.{Cells, sec}
 use Rattle.counts.specs.declared.Stamp.{Stamp}
-use Rattle.counts.specs.Geometry.{gN, gP, geoOk, geoOf, countOf}
-use Rattle.counts.specs.Stamps.{maxTx, wordMax, stampOf}
+use Rattle.counts.specs.Geometry.{gN, gP, geoOk, geoOf, countOf, tableOf}
+use Rattle.counts.specs.Stamps.{maxTx, wordsOk, stampOf}
 use Rattle.directory.specs.Directory.{entriesOf, apart}
 use Rattle.apages.specs.Index.{indexIn, everyGroup}
 use Rattle.card.specs.Sound.{viewOk}
@@ -45,14 +45,24 @@ groupAtMost s p x = stampAtMost s (stampOf x)
 unfoldable pub indexAtMost : Opened → List ℕ → Bool
 indexAtMost s ix = everyGroup (groupAtMost s) ix 0 (gP (s .geo))
 
--- the rest of the paragraph: sector 0, the table, both views (stamps dead in the present view have cc below c), names, stamps at c
+-- counts and table: sector 0, table word c, "every table word is at most 2,147,483,647, words past c are 0"
+unfoldable pub tableFits : Opened → Cells → Bool
+tableFits s k = headOk s k && wordOk (s .worn) (s .t .0) (getD (tableOf (s .geo) k) (s .c .0) 0) && wordsOk (s .c .0) (tableOf (s .geo) k)
+
+-- the two views: "each view passes the entry, index and bitmap rules, no name is present in either view of two entries, stamps dead in the present view have cc
+-- below c"; in the cut view, below N
+unfoldable pub viewsFit : Opened → Cells → Bool
+viewsFit s k =
+    viewOk (s .geo) (s .c .0) (presentTable s k) k && viewOk (s .geo) (gN (s .geo)) (cutTable s k) k
+    && pairwise (apart (presentTable s k) (cutTable s k)) (entriesOf (s .geo) k)
+
+-- "stamps at c have txc at most t": those of entries and of the index
+unfoldable pub stampsFit : Opened → Cells → Bool
+stampsFit s k = every (entryAtMost s) (entriesOf (s .geo) k) && indexAtMost s (indexIn (s .geo) k)
+
+-- the rest of the paragraph in three parts
 unfoldable pub fitsIn : Opened → Cells → Bool
-fitsIn s k =
-    let tc = cutTable s k in
-    let tp = presentTable s k in
-    headOk s k && wordOk (s .worn) (s .t .0) (getD tc (s .c .0) 0) && every wordMax tc && every isZero (drop (s .c .0 + 1) tc)
-    && viewOk (s .geo) (s .c .0) tp k && viewOk (s .geo) (gN (s .geo)) tc k && pairwise (apart tp tc) (entriesOf (s .geo) k)
-    && every (entryAtMost s) (entriesOf (s .geo) k) && indexAtMost s (indexIn (s .geo) k)
+fitsIn s k = tableFits s k && viewsFit s k && stampsFit s k
 
 unfoldable pub fits : Opened → List ℕ → Bool
 fits s work = sizesOk s work && fitsIn s (sec work)

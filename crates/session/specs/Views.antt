@@ -1,7 +1,7 @@
 -- "A session": its stamp (c, t), and its two views. Assumes nothing.
 use mathlib.Core.Bool.{cond}
 use mathlib.Core.List.{List, []}
-use Prim.Native.Nat.{ℕ}
+use Prim.Native.Nat.{ℕ, _-_}
 use Rattle.sectors.specs.Sectors.{Cells, sec}
 use Rattle.counts.specs.declared.Stamp.{Stamp}
 use Rattle.counts.specs.declared.View.{View}
@@ -26,11 +26,15 @@ presentView s = cond (s .worn) (asIs (s .geo)) (record { c = s .c; t = s .t })
 unfoldable pub presentTable : Opened → Cells → List ℕ
 presentTable s k = tableIn (s .geo) (presentView s) k
 
--- "the cut view takes it as t − 1": as the working image has it
+-- "the cut view takes it as t − 1; in a worn session both take it as the table has it"
+unfoldable pub cutView : Opened → View
+cutView s = cond (s .worn) (asIs (s .geo)) (record { c = s .c; t = record { 0 = s .t .0 - 1 } })
+
+-- the cut view's table is the working image's as it is: `cut-table` (FitLaws) says that this is what `cutView` takes it as
 unfoldable pub cutTable : Opened → Cells → List ℕ
 cutTable s k = tableOf (s .geo) k
 
--- the page that the present view shows, and the one that the cut view shows
+-- the map that the present view shows, and the one that the cut view shows
 unfoldable pub presentPage : Opened → Cells → List ℕ
 presentPage s k = pageIn (s .geo) (presentTable s k) k
 

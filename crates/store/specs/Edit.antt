@@ -1,4 +1,4 @@
--- put with a goal: "4, 2, 9, 5, 11, 7, 8", put without one, and remove: "4, 2, 9, 5, 6". Assumes nothing.
+-- put with a goal: 4, 2, 9, 5, 11, 7, 8; put without one: "4, 2, 9, 5, 7, 8"; remove: "4, 2, 9, 5, 6". Assumes nothing.
 use mathlib.Core.Bool.{not}
 use mathlib.Core.List.{List, []}
 use Prim.Native.Nat.{ℕ, zero, suc, _*_}

@@ -1,16 +1,17 @@
 -- get: "4, 2, 5, 6, 10"; list: "4, 2, 10"; free: "4, 2": the present view of a session. Assumes nothing.
 use mathlib.Core.List.{List}
 use Prim.Native.Nat.{ℕ}
+use lib.ListN.{length}
 use Rattle.sectors.specs.Sectors.{sec}
 use Rattle.apages.specs.Free.{freeIn, waitingIn}
 use Rattle.card.specs.declared.Line.{Line}
 use Rattle.card.specs.declared.Lined.{Lined}
-use Rattle.card.specs.Plan.{guard, ended, doIt, refused, Got, Listed}
+use Rattle.card.specs.Plan.{Plan, refuse, guard, ended, doIt, refused, Got, Listed}
 use Rattle.card.specs.Files.{getPlan, getEnd, listPlan, listEnd, noLine, lineEnd}
 use Rattle.session.specs.declared.Opened.{Opened}
 use Rattle.session.specs.declared.Session.{Session}
 use Rattle.session.specs.declared.Session.the-variants.{Closed, Open}
-use Rattle.session.specs.Views.{presentTable, presentPage, cutPage, presentFiles}
+use Rattle.session.specs.Views.{presentTable, presentPage, cutPage, presentFiles, sessionFiles}
 use Rattle.session.specs.Fits.{fits}
 use Rattle.store.specs.declared.Room.{Room}
 
@@ -20,11 +21,13 @@ get (Open s) work n out =
     let tp = presentTable s (sec work) in
     getEnd (s .geo) tp work out (guard 2 (fits s work) (getPlan (s .geo) tp work n out))
 
+-- "list 4, 2, 10", for a lent table of `room` lines
+unfoldable pub listTests : Session → List ℕ → ℕ → Plan
+listTests Closed work room = refuse 4
+listTests (Open s) work room = guard 2 (fits s work) (listPlan (presentFiles s (sec work)) room)
+
 unfoldable pub list : Session → List ℕ → List Line → Listed
-list Closed work lines = record { answer = refused 4; lines = lines }
-list (Open s) work lines =
-    let files = presentFiles s (sec work) in
-    listEnd files lines (guard 2 (fits s work) (listPlan files lines))
+list s work lines = listEnd (sessionFiles s work) lines (listTests s work (length lines))
 
 -- the line at a position (4, 2)
 unfoldable pub line : Session → List ℕ → ℕ → Lined

@@ -1,5 +1,5 @@
 -- Each of the two sectors by the rule for what becomes old. Assumes nothing.
-use Rattle.apages.specs.Index.{changedIndex}
+use Rattle.apages.specs.IndexLaws.{changed-text}
 use borrow.Author.Needs.{needs}
 use Rattle.bitmap.proofs.changed_index.Statement.{statement}
 use Rattle.bitmap.proofs.changed_index.Tie as tie
@@ -11,8 +11,7 @@ swapped-requires-2 : tie.Need-swapped-requires-2
 swapped-requires-2 c κs = search needs
 
 returns : tie.Need-returns
-unfolding changedIndex
-returns c = cc
+returns c = rw (changed-text _ _ _) cc
 
 pub changed-index-spec : {M : Type 1} → statement M
 changed-index-spec = tie.close (tie.spec swapped-requires swapped-requires-2 returns)

@@ -1,6 +1,5 @@
 -- `session::table_fits` meets its contract: by what its calls ensure. Assumes nothing.
-use Rattle.session.specs.Views.{cutTable}
-use Rattle.session.specs.FitTests.{tableFits}
+use Rattle.session.specs.FitTests.{table-here}
 use borrow.Author.Needs.{needs}
 use Rattle.fit.proofs.table_fits.Statement.{statement}
 use Rattle.fit.proofs.table_fits.Tie as tie
@@ -21,8 +20,9 @@ table-max-requires : tie.Need-table-max-requires
 table-max-requires c κs = search needs
 
 returns : tie.Need-returns
-unfolding tableFits cutTable
-returns c = rw (c .before .before .before .before .head-ok .ensures, c .before .before .word-ok .ensures, c .before .before .before .table-word .ensures, c .table-max .ensures, c .before .zero-past .ensures)
+returns c =
+    table-here _ _ (c .before .before .before .before .head-ok .ensures) (rw (c .before .before .before .table-word .ensures) at (c .before .before .word-ok .ensures))
+    (c .table-max .ensures) (c .before .zero-past .ensures)
 
 pub table-fits-spec : {M : Type 1} → statement M
 table-fits-spec =

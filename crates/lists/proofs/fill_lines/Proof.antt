@@ -58,8 +58,8 @@ use Rattle.card.proofs.Line.Laws as T′
 use Rattle.card.proofs.Answer as N
 use Rattle.card.proofs.Answer.Laws as N′
 use Rattle.lists.specs.declared.Listing.{Listing}
-use Rattle.lists.specs.Listings.{filesAt, written}
-use Rattle.lists.specs.ListingLaws.{length-written, Ready}
+use Rattle.lists.specs.Listings.{filesAt, filledTo}
+use Rattle.lists.specs.ListingLaws.{length-filledTo, HasRoom}
 use Rattle.lists.proofs.Listing as Z
 use Rattle.lists.proofs.Listing.Laws as Z′
 use Rattle.lists.proofs.line_of as line
@@ -72,9 +72,9 @@ use Rattle.lists.proofs.fill_lines.Statement as stated
 use Rattle.lists.proofs.fill_lines.Code as code
 use Rattle.lists.proofs.fill_lines.Code.Mir as Mir
 
-next-written : (files : List Line) (n : ℕ) (ys : List Line) (r : Line) → r ≡ getD files n noLine → set (written files n ys) n r ≡ written files (n + 1) ys
-unfolding written
-next-written files n ys r e = ap (λ (l : Line). set (written files n ys) n l) e ∙ ap (λ (m : ℕ). written files m ys) (sym (add-one n))
+next-filledTo : (files : List Line) (n : ℕ) (ys : List Line) (r : Line) → r ≡ getD files n noLine → set (filledTo files n ys) n r ≡ filledTo files (n + 1) ys
+unfolding filledTo
+next-filledTo files n ys r e = ap (λ (l : Line). set (filledTo files n ys) n l) e ∙ ap (λ (m : ℕ). filledTo files m ys) (sym (add-one n))
 
 abbrev Arg : Type 0
 Arg = RefT (List ℕ) × (Listing × (RefT (List Line) × Unit {0}))
@@ -87,7 +87,7 @@ module _ {M : Type 1} (𝓤 : URA M) (H : Heap 𝓤) (A : Atoms 𝓤) (at-mem : 
   abbrev LineOf : Contract 𝓤
   LineOf = tripleOf 𝓤 H A line.signature (line.spec 𝓤 H A at-mem run)
 
-module _ {M : Type 1} (𝓤 : URA M) (H : Heap 𝓤) (A : Atoms 𝓤) (W : Given 𝓤 H A) (at-mem : Memory → SProp 𝓤) (run : Routine → Fun 𝓤) (κ₀ κ₁ : Lft) (q₀ q₁ : Share) (z : Listing) (x : RefT (List ℕ)) (b o : ℕ) (γ : GName) (ys : List Line) (gz : Is Z.the-row z (LL.vals Z.the-type Z′.the-laws z)) (gx : Room u8 (length (x .now))) (gn : Room T.the-row (length ys)) (ready : Ready z (x .now) (length ys)) where
+module _ {M : Type 1} (𝓤 : URA M) (H : Heap 𝓤) (A : Atoms 𝓤) (W : Given 𝓤 H A) (at-mem : Memory → SProp 𝓤) (run : Routine → Fun 𝓤) (κ₀ κ₁ : Lft) (q₀ q₁ : Share) (z : Listing) (x : RefT (List ℕ)) (b o : ℕ) (γ : GName) (ys : List Line) (gz : Is Z.the-row z (LL.vals Z.the-type Z′.the-laws z)) (gx : Room u8 (length (x .now))) (gn : Room T.the-row (length ys)) (ready : HasRoom z (x .now) (length ys)) where
   abbrev a : Arg
   a = (x, (z, (record { ptr = (b, o); name = γ; now = ys }, tt)))
 
@@ -143,17 +143,17 @@ module _ {M : Type 1} (𝓤 : URA M) (H : Heap 𝓤) (A : Atoms 𝓤) (W : Given
   said-line k r = exE 𝓤 _ (λ ws. snd∗ 𝓤 (sem 𝓤 H A (lasts line.ended (κ₀, tt) (x, (z, (k, tt))) ws)) (fact 𝓤 (r ≡ getD files k noLine)))
 
   abbrev done-at : ℕ → List Line
-  done-at i = written files i ys
+  done-at i = filledTo files i ys
 
   exits : (i : ℕ) → i ≡ count
       → ent 𝓤 (⋆ 𝓤 H A (‵ (fobs γ (codedHoleys T.the-row .code (heres T.the-row (done-at i)))) ∷ ‵ (fbor κ₁ (Held T.the-row (length (done-at i)) b o γ)) ∷ ‵ (flft κ₁ q₁) ∷ ‵ S ∷ ‵ (flft κ₀ q₀) ∷ [])) (Post nv)
   exits i e =
       qed W (‵ (fobs γ (codedHoleys T.the-row .code (heres T.the-row (done-at i)))) ∷ ‵ (fbor κ₁ (Held T.the-row (length (done-at i)) b o γ)) ∷ ‵ (flft κ₁ q₁) ∷ ‵ S ∷ ‵ (flft κ₀ q₀) ∷ []) ∵
-      suffices ! _ (ends-at 𝓤 H A f.ended stayed (f.clauses 𝓤 H A at-mem run) W (((κ₀, (κ₁, tt)), (q₀, (q₁, tt)), tt, a, at), tt) nv (z .answer) (tt, (tt, (done-at i, tt))) (tt, (tt, (length-written files i ys, tt)))) $
-      says ! (refl, ap (λ (m : ℕ). written files m ys) e) $
+      suffices ! _ (ends-at 𝓤 H A f.ended stayed (f.clauses 𝓤 H A at-mem run) W (((κ₀, (κ₁, tt)), (q₀, (q₁, tt)), tt, a, at), tt) nv (z .answer) (tt, (tt, (done-at i, tt))) (tt, (tt, (length-filledTo files i ys, tt)))) $
+      says ! (refl, ap (λ (m : ℕ). filledTo files m ys) e) $
       nothing ! $ move ! (3 ∷ 0 ∷ []) $ join ! $ move ! (4 ∷ 0 ∷ []) $ join ! $ frame ! $
       -- [obs; the borrow; s]
-      fjoin ! $ pureI ! (at-slice T.the-row (record { ptr = (b, o); name = γ; now = done-at i }) (lv ∷ [])) (tt, (tt, tt)) (ap (λ (m : ℕ). sliceVal (b, o) m ∷ []) (sym (length-written files i ys)), subst (Room T.the-row) (sym (length-written files i ys)) gn) $ fjoin ! $
+      fjoin ! $ pureI ! (at-slice T.the-row (record { ptr = (b, o); name = γ; now = done-at i }) (lv ∷ [])) (tt, (tt, tt)) (ap (λ (m : ℕ). sliceVal (b, o) m ∷ []) (sym (length-filledTo files i ys)), subst (Room T.the-row) (sym (length-filledTo files i ys)) gn) $ fjoin ! $
       nothing ! $ move ! (1 ∷ 0 ∷ []) $ fjoin ! $ owned ! Z.the-row (Is Z.the-row) (LL.makes Z.the-type Z′.the-plain 𝓤 H A) z _ gz $ fjoin ! $ move ! (1 ∷ 0 ∷ []) $ fjoin ! $ frame ! $ owned ! N.the-row (Is N.the-row) (LL.makes N.the-type N′.the-plain 𝓤 H A) (z .answer) _ gr $ done !
 
   abbrev Upto : Type 0
@@ -202,7 +202,7 @@ module _ {M : Type 1} (𝓤 : URA M) (H : Heap 𝓤) (A : Atoms 𝓤) (W : Given
             let below : i .0 < length ys = lt-of-lt-of-le less (ready .0) in
             let wide-fits : i .0 < 2 ^ 64 = omega (arith, gn .0) in
             let byte-fits : i .0 * 48 < 2 ^ 64 = omega (arith, gn .1) in
-            let inside : i .0 < length (done-at (i .0)) = subst (λ (m : ℕ). i .0 < m) (sym (length-written files (i .0) ys)) below in
+            let inside : i .0 < length (done-at (i .0)) = subst (λ (m : ℕ). i .0 < m) (sym (length-filledTo files (i .0) ys)) below in
             let next : Upto = (i .0 + 1, add-one-le less) in
             assigns ! (bin ! (load ! (from ! (stop !)) (look ! 16 refl)) (load ! (from ! (fld ! refl (fld ! refl (stop !)))) (look-in ! 20 (sub ! 1 refl (sub ! 0 refl (whole !))))) tt) (from ! (stop !)) (init ! 14 refl (tt, tt)) $
             rewrite ! 14 (λ (t : Bool). ‵ (fat fullShare tyBool l₅ 0 (vbool t))) le refl $ stays ! (load ! (from ! (stop !)) (look ! 14 refl)) $
@@ -223,7 +223,7 @@ module _ {M : Type 1} (𝓤 : URA M) (H : Heap 𝓤) (A : Atoms 𝓤) (W : Given
             -- [lines[i]; what it owns; the others; the line; token; s; the open borrow; obs; auth; _9 at 9]
             assigns ! (of-opd ! (load ! (from ! (stop !)) (look ! 15 refl))) (from ! (hop ! (look ! 9 refl) (stop !))) (store-raw ! 0 refl (LL.lawful T.the-type T′.the-laws 𝓤 H A W .typed y _ is .0)) $
             move ! (1 ∷ []) $ drop ! $ move ! (0 ∷ 2 ∷ []) $ elem-put ! T.the-row fullShare (done-at (i .0)) (i .0) y (u ∷ []) b o inside $
-            rewrite ! 0 (λ (zs : List Line). ‵ (row T.the-row fullShare zs b o)) (next-written files (i .0) ys y e) refl $
+            rewrite ! 0 (λ (zs : List Line). ‵ (row T.the-row fullShare zs b o)) (next-filledTo files (i .0) ys y e) refl $
             assigns-last ! (bin ! (load ! (from ! (stop !)) (look ! 16 refl)) (lit ! tt) (record { fits = fits next })) (from ! (stop !)) (store ! 16 refl (tt, record { fits = fits next })) $
             move ! (1 ∷ []) $ split ! $ forget ! 7 refl $ forget ! 9 refl $ forget ! 11 refl $ forget ! 13 refl $ forget ! 15 refl $
             keep ! (2 ∷ 3 ∷ 0 ∷ 4 ∷ 5 ∷ 6 ∷ 7 ∷ 8 ∷ 9 ∷ 10 ∷ 11 ∷ 12 ∷ 13 ∷ 14 ∷ 15 ∷ 16 ∷ 17 ∷ 18 ∷ 19 ∷ 20 ∷ 21 ∷ 22 ∷ 23 ∷ 24 ∷ 25 ∷ 26 ∷ []) $
@@ -233,7 +233,7 @@ module _ {M : Type 1} (𝓤 : URA M) (H : Heap 𝓤) (A : Atoms 𝓤) (W : Given
             rewrite ! 14 (λ (t : Bool). ‵ (fat fullShare tyBool l₅ 0 (vbool t))) le refl $ leaves-loop ! (load ! (from ! (stop !)) (look ! 14 refl)) $
             exec ! C Λ En Mir.t-3 (atRet En Post) $
             assigns ! (of-opd ! (load ! (from ! (fld ! refl (stop !))) (look-in ! 20 (sub ! 0 refl (whole !))))) (from ! (stop !)) (init ! 24 refl (LL.lawful N.the-type N′.the-laws 𝓤 H A W .typed (z .answer) _ gr .0)) $
-            move ! (0 ∷ 3 ∷ 4 ∷ 5 ∷ []) $ closes-slice ! tt T.the-row ys (done-at (i .0)) (length-written files (i .0) ys) b o $
+            move ! (0 ∷ 3 ∷ 4 ∷ 5 ∷ []) $ closes-slice ! tt T.the-row ys (done-at (i .0)) (length-filledTo files (i .0) ys) b o $
             -- [obs; the borrow; token; s; token; _9 at 5]
             returns ! (look ! 23 refl) $ forget ! 13 refl $ forget ! 15 refl $ forget ! 17 refl $ forget ! 19 refl $ forget ! 21 refl $ forget ! 23 refl $
             move ! (23 ∷ 24 ∷ []) $ free1 ! $ move ! (21 ∷ 22 ∷ []) $ free1 ! $ move ! (19 ∷ 20 ∷ []) $ free1 ! $ move ! (17 ∷ 18 ∷ []) $ free1 ! $ move ! (15 ∷ 16 ∷ []) $ free1 ! $
@@ -241,12 +241,12 @@ module _ {M : Type 1} (𝓤 : URA M) (H : Heap 𝓤) (A : Atoms 𝓤) (W : Given
             by ! (exits (i .0) (le-antisymm (i .1) (ltb-false (i .0) count le)))
 
     looped : Sq W (At (0, zero-le)) (runs C Λ En Mir.t-2 (atRet En Post))
-    unfolding written
+    unfolding filledTo
     looped = first ! $ blocks ! $ loops ! 𝓣 Nearer Nearer-wf At turns (0, zero-le)
 
     -- i is 0, and the table is opened
     starts : Sq W (Locals (‵ (froom (tyInt w32) l₄ 0)) ((‵ (flft κ₀ q₀) ⊛ (‵ (flft κ₁ q₁) ⊛ ‵ ftrue)) ∷ ‵ (owns (ShrSlice (named 0) κ₀ u8 ∷ Z.the-row ∷ MutSlice (named 1) κ₁ T.the-row ∷ []) a at) ∷ [])) (runs C Λ En Mir.t-1 (atRet En Post))
-    unfolding written
+    unfolding filledTo
     starts =
         assigns ! (of-opd ! (lit ! tt)) (from ! (stop !)) (init ! 10 refl (tt, record { fits = lit< tt })) $
         move ! (21 ∷ []) $ fsplit ! $ move ! (1 ∷ []) $ fsplit ! $ drop ! $ fsplit ! $
@@ -266,7 +266,7 @@ module _ {M : Type 1} (𝓤 : URA M) (H : Heap 𝓤) (A : Atoms 𝓤) (W : Given
   fill-walks : Walks 𝓤 H A f.ended stayed (WpFn 𝓤 H (𝓣 .C) (𝓣 .Λ) code.function) (f.clauses 𝓤 H A at-mem run)
   fill-walks = walked 𝓤 H A f.ended stayed (f.clauses 𝓤 H A at-mem run) (WpFn 𝓤 H (𝓣 .C) (𝓣 .Λ) code.function)
       (λ κs. (slice-vals, (LL.vals Z.the-type Z′.the-laws, (slice-vals, tt)))) (λ κs. (shr-slice-tells (named 0) (κs .0) u8, (LL.tells Z.the-type Z′.the-laws, (mut-slice-tells (named 1) (κs .1 .0) T.the-row, tt))))
-      (λ κs qs bounds a g are. needs 𝓤 (Ready (a .1 .0) (a .0 .now) (length (a .1 .1 .0 .now))) _ (λ ready.
+      (λ κs qs bounds a g are. needs 𝓤 (HasRoom (a .1 .0) (a .0 .now) (length (a .1 .1 .0 .now))) _ (λ ready.
       walk 𝓤 H A W at-mem run (κs .0) (κs .1 .0) (qs .0) (qs .1 .0) (a .1 .0) (a .0) (a .1 .1 .0 .ptr .0) (a .1 .1 .0 .ptr .1) (a .1 .1 .0 .name) (a .1 .1 .0 .now) (are .1 .0) (are .0 .0 .1) (are .1 .1 .0 .0 .1) ready 𝓣 known-line))
 
   fill-meets : Meets 𝓤 H A f.signature (WpFn 𝓤 H (𝓣 .C) (𝓣 .Λ) code.function) (f.spec 𝓤 H A at-mem run)

@@ -49,7 +49,7 @@ use Rattle.session.proofs.Session as E
 use Rattle.session.proofs.Session.Laws as E′
 use Rattle.lists.specs.declared.Listing.{Listing}
 use Rattle.lists.specs.Listings.{sessionListing}
-use Rattle.lists.specs.ListingLaws.{Ready, list-ready, Fills, list-fills}
+use Rattle.lists.specs.ListingLaws.{HasRoom, list-ready, Fills, list-fills}
 use Rattle.lists.proofs.Filling.{Lasts, Filled, told, Fill, imgVal, tableVal, Img, to-fill, asks-fill}
 use Rattle.lists.proofs.Listing as Z
 use Rattle.lists.proofs.Listing.Laws as Z′
@@ -116,8 +116,8 @@ module _ {M : Type 1} (𝓤 : URA M) (H : Heap 𝓤) (A : Atoms 𝓤) (W : Given
   said-judge : (r : Listing) → ent 𝓤 (ensured 𝓤 H A judge.ended (judge.clauses 𝓤 H A at-mem run) (κ₀, tt) (z, (x, (length ys, tt))) tt r) (fact 𝓤 (Judged r))
   said-judge r = exE 𝓤 _ (λ ws. snd∗ 𝓤 (sem 𝓤 H A (lasts judge.ended (κ₀, tt) (z, (x, (length ys, tt))) ws)) (fact 𝓤 (Judged r)))
 
-  ready-of : (r : Listing) → Judged r → Ready r (x .now) (length ys)
-  ready-of r e = subst (λ (l : Listing). Ready l (x .now) (length ys)) (sym e) (list-ready z (x .now) (length ys))
+  ready-of : (r : Listing) → Judged r → HasRoom r (x .now) (length ys)
+  ready-of r e = subst (λ (l : Listing). HasRoom l (x .now) (length ys)) (sym e) (list-ready z (x .now) (length ys))
 
   fills-of : (r : Listing) → Judged r → Fills r (x .now) ys (list z (x .now) ys)
   fills-of r e = subst (λ (l : Listing). Fills l (x .now) ys (list z (x .now) ys)) (sym e) (list-fills z (x .now) ys)

@@ -45,7 +45,7 @@ use Rattle.card.proofs.Answer as N
 use Rattle.card.proofs.Answer.Laws as N′
 use Rattle.lists.specs.declared.Listing.{Listing}
 use Rattle.lists.specs.Listings.{cardListing}
-use Rattle.lists.specs.ListingLaws.{Ready, read-ready, Fills, read-fills}
+use Rattle.lists.specs.ListingLaws.{HasRoom, read-ready, Fills, read-fills}
 use Rattle.lists.proofs.Filling.{Lasts, Filled, told, Fill, imgVal, tableVal, Img, to-fill, asks-fill}
 use Rattle.lists.proofs.Listing as Z
 use Rattle.lists.proofs.Listing.Laws as Z′
@@ -109,8 +109,8 @@ module _ {M : Type 1} (𝓤 : URA M) (H : Heap 𝓤) (A : Atoms 𝓤) (W : Given
   said-judge : (r : Listing) → ent 𝓤 (ensured 𝓤 H A judge.ended (judge.clauses 𝓤 H A at-mem run) (κ₀, tt) (x, (length ys, tt)) tt r) (fact 𝓤 (Judged r))
   said-judge r = exE 𝓤 _ (λ ws. snd∗ 𝓤 (sem 𝓤 H A (lasts judge.ended (κ₀, tt) (x, (length ys, tt)) ws)) (fact 𝓤 (Judged r)))
 
-  ready-of : (r : Listing) → Judged r → Ready r (x .now) (length ys)
-  ready-of r e = subst (λ (l : Listing). Ready l (x .now) (length ys)) (sym e) (read-ready (x .now) (length ys))
+  ready-of : (r : Listing) → Judged r → HasRoom r (x .now) (length ys)
+  ready-of r e = subst (λ (l : Listing). HasRoom l (x .now) (length ys)) (sym e) (read-ready (x .now) (length ys))
 
   fills-of : (r : Listing) → Judged r → Fills r (x .now) ys (readList (x .now) ys)
   fills-of r e = subst (λ (l : Listing). Fills l (x .now) ys (readList (x .now) ys)) (sym e) (read-fills (x .now) ys)
