@@ -1,10 +1,10 @@
-//! Links the functions for a host, built beforehand from the crates `host` and
-//! `lists`.
+//! Links the functions for a host, built beforehand from the crates `host`,
+//! `lists` and `fitting`.
 
 use std::path::Path;
 use std::process::exit;
 
-const LIBRARIES: [&str; 2] = ["host", "lists"];
+const LIBRARIES: [&str; 3] = ["host", "lists", "fitting"];
 
 fn main() {
     let folder = Path::new(env!("CARGO_MANIFEST_DIR")).join("../target/staticlib");

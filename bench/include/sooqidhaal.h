@@ -4,7 +4,8 @@
  *
  * Link target/staticlib/libhost.a for the first and target/staticlib/liblists.a
  * for list's two. They need nothing but memcpy, memmove and memset, and each
- * can be linked without the other.
+ * can be linked without the other. A third, libfitting.a, has functions that
+ * leave one test out and ask more of the caller: they stand at the end.
  *
  * Images. A card is a byte buffer of 512 * S bytes that survives a cut; the
  * working image is a second buffer of the same length that need not. The
@@ -236,6 +237,72 @@ struct store_answer store_unmount_steps(const uint8_t session[24],
                                         uint8_t *card, size_t card_len,
                                         const uint8_t *work, size_t work_len,
                                         uint32_t k);
+
+/*
+ * Without the fit test: the functions of target/staticlib/libfitting.a. Each
+ * takes what the function of the same name above takes, and does the same with
+ * the same numbers, byte for byte, but that it never asks whether the session
+ * fits: 2 is none of its numbers, every other number and its place stay.
+ *
+ * WHAT THE CALLER ANSWERS FOR. Where the session is open it fits the working
+ * image that is lent with it. That is always so when
+ *
+ *   - the session came from store_mount with this working image, and since then
+ *     only from these functions or those above, each with the same session,
+ *     card and working image;
+ *   - only the newest session is used: an earlier copy of its 24 bytes is not,
+ *     and a second mount of the card ends the first;
+ *   - nobody else has written to the working image, to the session, or to the
+ *     card while the session is open;
+ *   - after a cut the session is closed (24 zero bytes) until the next mount.
+ *
+ * With any other open session nothing is promised, not even that a call ends
+ * or stays inside its buffers. A caller that cannot answer for all of this
+ * uses the functions above. The closed session is taken: 4.
+ */
+
+/* 4, 9, 5, 7, 8 */
+uint32_t fitting_put(const uint8_t session[24], uint8_t *work, size_t work_len,
+                     const uint8_t *name, size_t name_len,
+                     const uint8_t *content, size_t content_len);
+
+/* 4, 9, 5, 11, 7, 8 */
+uint32_t fitting_put_at(const uint8_t session[24],
+                        uint8_t *work, size_t work_len,
+                        const uint8_t *name, size_t name_len,
+                        const uint8_t *content, size_t content_len,
+                        uint32_t goal);
+
+/* 4, 9, 5, 6 */
+uint32_t fitting_remove(const uint8_t session[24],
+                        uint8_t *work, size_t work_len,
+                        const uint8_t *name, size_t name_len);
+
+/* 4, 5, 6, 10 */
+struct store_answer fitting_get(const uint8_t session[24],
+                                const uint8_t *work, size_t work_len,
+                                const uint8_t *name, size_t name_len,
+                                uint8_t *out, size_t out_len);
+
+/* 4 */
+uint32_t fitting_free(const uint8_t session[24],
+                      const uint8_t *work, size_t work_len, uint8_t out[8]);
+
+/* 4, 1, 11 */
+uint32_t fitting_land(const uint8_t session[24], uint8_t *card, size_t card_len,
+                      const uint8_t *work, size_t work_len, uint32_t sector);
+
+/* 4, 1, 9 */
+uint32_t fitting_sync(uint8_t session[24], uint8_t *card, size_t card_len,
+                      uint8_t *work, size_t work_len);
+struct store_answer fitting_sync_count(uint8_t session[24],
+                                       uint8_t *card, size_t card_len,
+                                       uint8_t *work, size_t work_len);
+
+/* 4, 1 */
+struct store_answer fitting_unmount(uint8_t session[24],
+                                    uint8_t *card, size_t card_len,
+                                    uint8_t *work, size_t work_len);
 
 #ifdef __cplusplus
 }

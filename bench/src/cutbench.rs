@@ -16,6 +16,9 @@
 //! the cut fell inside a sync after its table sector was written, of either
 //! side of it.
 //!
+//! One part runs histories through the functions without the fit test, behind
+//! the one owner that may call them, beside the tested ones: all must be alike.
+//!
 //! The parts are in [`parts`]; a history that shows a disagreement is made
 //! shorter by [`shrink`] and printed, so that it can be replayed.
 
@@ -30,6 +33,7 @@ mod histories;
 mod hostile;
 mod image;
 mod lists;
+mod module;
 mod op;
 mod pages;
 mod parse;
@@ -40,6 +44,7 @@ mod summary;
 mod track;
 mod world;
 
+pub use module::twin_fault;
 pub use op::{Cuttable, Op, Which};
 pub use parse::{history, text};
 pub use replay::replay;

@@ -7,6 +7,8 @@
 //! * [`host`] holds the host functions of the proved store and list's two.
 //! * [`module`] has them with a session that holds its images, and the table's
 //!   numbers as an enum.
+//! * [`fitting`] holds the functions without the fit test, behind one owner of
+//!   card, working image and session.
 //! * [`store`] is what both have in common.
 //! * [`cutbench`] runs histories with cuts through both and compares.
 //! * [`measure`] times them and looks at their stack.
@@ -15,6 +17,8 @@
 
 pub mod cutbench;
 pub mod dice;
+#[allow(unsafe_code)]
+pub mod fitting;
 #[allow(unsafe_code)]
 pub mod host;
 pub mod measure;

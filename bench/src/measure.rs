@@ -14,13 +14,16 @@ mod picture;
 mod rows;
 mod stacks;
 mod timing;
+mod untested;
 
 pub use page::{Marks, STACK, TABLES};
 pub use rows::Row;
 pub use stacks::{stacks, OWN};
 
 /// The parts of the tables that can be taken alone.
-pub const PARTS: [&str; 7] = ["fit", "free", "sync", "mount", "goal", "growth", "calls"];
+pub const PARTS: [&str; 8] = [
+    "fit", "free", "sync", "mount", "goal", "untested", "growth", "calls",
+];
 
 /// The tables, and the picture if its parts were asked for.
 pub struct Taken {
@@ -69,12 +72,13 @@ type Subject = (&'static str, fn() -> String);
 
 /// The parts that are one table each.
 fn subjects(parts: &[&str], progress: Progress) -> Vec<String> {
-    let all: [Subject; 5] = [
+    let all: [Subject; 6] = [
         ("fit", fit::fits),
         ("free", fit::frees),
         ("sync", copies::syncs),
         ("mount", copies::mounts),
         ("goal", goals::goals),
+        ("untested", untested::untested),
     ];
     let asked = all.iter().filter(|(name, _)| parts.contains(name));
     let taken = asked.map(|(name, table)| {

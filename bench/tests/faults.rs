@@ -16,6 +16,7 @@ fn first_failure(parts: &[&str], pair: Pair, histories: u64) -> Option<Failure> 
         seed: 1,
         random: Limit::Histories(histories),
         hostile: Limit::Histories(histories),
+        module: Limit::Histories(0),
         most: 0,
     };
     run(parts, pair, &plan, &|_, _| ()).1.into_iter().next()

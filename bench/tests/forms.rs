@@ -145,6 +145,23 @@ fn tight_lists_every_buffer_of_every_public_function() {
     );
 }
 
+#[test]
+fn tight_compares_every_inner_call_with_its_public_one() {
+    let file = crates().join("tight/specs/Inner.antt");
+    let text = fs::read_to_string(file).expect("tight states it");
+    let mut inner = 0;
+    for name in ["cards", "edits", "looks", "fitting"] {
+        for (function, f) in functions(name) {
+            if f.public && f.requires {
+                inner += 1;
+                let stands = text.contains(&format!(" {function}.Pre {function}.Post "));
+                assert!(stands, "{name}::{function}");
+            }
+        }
+    }
+    assert_eq!(inner, text.matches(" : Inner ").count());
+}
+
 /// The lines of a body that hand a buffer on to be written, or write to it themselves.
 fn writes(f: &Function, buffer: &str, all: &BTreeMap<String, Function>) -> Vec<String> {
     let writes_here = |line: &str| {
@@ -176,7 +193,7 @@ fn writes(f: &Function, buffer: &str, all: &BTreeMap<String, Function>) -> Vec<S
 fn reached() -> BTreeMap<String, Function> {
     let mut all = BTreeMap::new();
     for name in [
-        "words", "sectors", "counts", "sound", "mounting", "syncing", "cards",
+        "words", "sectors", "counts", "sound", "unfit", "mounting", "syncing", "cards",
     ] {
         all.extend(functions(name));
     }
@@ -187,10 +204,12 @@ fn reached() -> BTreeMap<String, Function> {
 fn a_call_hands_the_card_on_in_one_line() {
     let all = reached();
     for call in ["mount", "sync", "unmount"] {
-        let inner = format!("{call}_in");
-        let loops = format!("{call}_steps");
-        let step = format!("{call}_step");
-        for (from, to) in [(call, &inner), (&inner, &loops), (&loops, &step)] {
+        // mount has no session to fit, and so no inner call
+        let inners = ["_fitting", "_in", "_steps", "_step"];
+        let skipped = usize::from(call == "mount");
+        let names = inners[skipped..].iter().map(|end| format!("{call}{end}"));
+        let chain: Vec<String> = [call.to_string()].into_iter().chain(names).collect();
+        for (from, to) in chain.iter().zip(&chain[1..]) {
             let lines = writes(&all[from], "card", &all);
             assert_eq!(lines.len(), 1, "{from}: {lines:?}");
             assert!(

@@ -16,7 +16,7 @@ fn given(what: &str) -> Option<String> {
     env::var(format!("CARGO_TARGET_X86_64_UNKNOWN_LINUX_GNU_{what}")).ok()
 }
 
-/// Compiles a C program with the header and links it with both archives.
+/// Compiles a C program with the header and links it with the archives.
 fn compiled(source: &str, name: &str) -> PathBuf {
     let program = Path::new(env!("CARGO_TARGET_TMPDIR")).join(name);
     let cc = given("LINKER").unwrap_or_else(|| "cc".to_string());
@@ -34,6 +34,7 @@ fn compiled(source: &str, name: &str) -> PathBuf {
         .arg(here().join(source))
         .arg(here().join("../target/staticlib/libhost.a"))
         .arg(here().join("../target/staticlib/liblists.a"))
+        .arg(here().join("../target/staticlib/libfitting.a"))
         .arg("-o")
         .arg(&program)
         .status()
@@ -54,6 +55,11 @@ fn run(program: &Path) -> Output {
 #[test]
 fn a_c_host_runs_a_few_lines_of_the_sheet() {
     run(&compiled("tests/c/sheet.c", "sheet"));
+}
+
+#[test]
+fn a_c_module_leaves_the_fit_test_out() {
+    run(&compiled("tests/c/fitting.c", "fitting"));
 }
 
 #[test]

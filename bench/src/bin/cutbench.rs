@@ -71,6 +71,7 @@ fn plan(arguments: &[String]) -> Result<Plan, String> {
             seed: seed.unwrap_or(SHORT_SEED),
             random: Limit::Histories(1_000),
             hostile: Limit::Histories(2_000),
+            module: Limit::Histories(500),
             most: 14,
         }
     } else {
@@ -79,6 +80,7 @@ fn plan(arguments: &[String]) -> Result<Plan, String> {
             seed: seed.unwrap_or_else(from_the_clock),
             random: half,
             hostile: half,
+            module: Limit::Time(Duration::from_secs(seconds) / 10),
             most: if seconds < 60 { 14 } else { 20 },
         }
     })

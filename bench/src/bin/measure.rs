@@ -10,8 +10,8 @@ const HELP: &str = "\
 measure                 prints all tables
 measure PAGE            puts them into a page, between its marks, and writes
                         bench.svg beside it
-measure --only PART ..  prints some parts: fit free sync mount goal growth
-                        calls
+measure --only PART ..  prints some parts: fit free sync mount goal untested
+                        growth calls
 measure --rows          prints the rows of the long table as lines of text, cells
                         ended by tabs: S,T,D; directory; call; number; proved,
                         plain and one pass in ns. The first line is the processor

@@ -1,5 +1,6 @@
 //! The parts of a run, each a row of histories shared out to the cores.
 
+use super::module::twin_fault;
 use super::op::Op;
 use super::shrink::{fault, shrink};
 use super::summary::{Row, Tally};
@@ -23,6 +24,8 @@ pub struct Plan {
     pub seed: u64,
     pub random: Limit,
     pub hostile: Limit,
+    /// Histories of a module beside the tested calls.
+    pub module: Limit,
     /// Products of cards up to 2 to this are tried whole.
     pub most: u32,
 }
@@ -64,7 +67,14 @@ fn same_kind(one: &str, other: &str) -> bool {
 }
 
 /// The parts in order.
-pub const PARTS: [&str; 5] = ["random", "exhaustive", "edges", "pages", "hostile"];
+pub const PARTS: [&str; 6] = [
+    "random",
+    "exhaustive",
+    "edges",
+    "pages",
+    "hostile",
+    "module",
+];
 
 /// Runs some of the parts in order, and none after one with a disagreement;
 /// `progress` is told of each part while it runs.
@@ -78,24 +88,34 @@ pub fn run(
     let (fixed, scripts, paged) = (exhaustive::all(plan.most), edges::all(), pages::all());
     let dice = |part, i| Dice::new(Dice::seed_of(plan.seed, part, i));
     let every = Limit::Histories(u64::MAX);
-    let parts: [(&'static str, Limit, &Source); 5] = [
-        (PARTS[0], plan.random, &|i| {
+    let tested = |history: &[Op]| fault(pair.0, pair.1, history);
+    let parts: [(&'static str, &Runner, Limit, &Source); 6] = [
+        (PARTS[0], &tested, plan.random, &|i| {
             Some(histories::random(&mut dice(1, i), 66))
         }),
-        (PARTS[1], every, &|i| fixed.get(i as usize).cloned()),
-        (PARTS[2], every, &|i| scripts.get(i as usize).cloned()),
-        (PARTS[3], every, &|i| paged.get(i as usize).cloned()),
-        (PARTS[4], plan.hostile, &|i| {
+        (PARTS[1], &tested, every, &|i| {
+            fixed.get(i as usize).cloned()
+        }),
+        (PARTS[2], &tested, every, &|i| {
+            scripts.get(i as usize).cloned()
+        }),
+        (PARTS[3], &tested, every, &|i| {
+            paged.get(i as usize).cloned()
+        }),
+        (PARTS[4], &tested, plan.hostile, &|i| {
             Some(hostile::random(&mut dice(2, i), &cards))
+        }),
+        (PARTS[5], &twin_fault, plan.module, &|i| {
+            Some(histories::random(&mut dice(3, i), 66))
         }),
     ];
     let mut rows = Vec::new();
     let mut failures = Vec::new();
-    for (part, limit, source) in parts {
+    for (part, runner, limit, source) in parts {
         if !names.contains(&part) {
             continue;
         }
-        let (row, failed) = run_part(part, pair, limit, source, &|tally| progress(part, tally));
+        let (row, failed) = run_part(part, runner, limit, source, &|tally| progress(part, tally));
         rows.push(row);
         failures = failed;
         if !failures.is_empty() {
@@ -108,6 +128,9 @@ pub fn run(
 /// The history of a number, if there is one.
 type Source<'a> = dyn Fn(u64) -> Option<Vec<Op>> + Sync + 'a;
 
+/// Runs a history: what was counted, and the first line with a disagreement.
+type Runner<'a> = dyn Fn(&[Op]) -> (Tally, Option<(usize, String)>) + Sync + 'a;
+
 /// What the cores share while a part runs.
 struct Shared {
     next: AtomicU64,
@@ -117,7 +140,7 @@ struct Shared {
 
 fn run_part(
     part: &'static str,
-    pair: Pair,
+    runner: &Runner,
     limit: Limit,
     source: &Source,
     progress: &(dyn Fn(Tally) + Sync),
@@ -131,7 +154,7 @@ fn run_part(
     let cores = thread::available_parallelism().map_or(1, |n| n.get().min(16));
     thread::scope(|scope| {
         for _ in 0..cores {
-            scope.spawn(|| work(pair, limit, source, begun, &shared, progress));
+            scope.spawn(|| work(runner, limit, source, begun, &shared, progress));
         }
     });
     let (tally, failures) = shared.done.into_inner().expect("no core panicked");
@@ -146,7 +169,7 @@ fn run_part(
 
 /// Takes histories until there are no more, the limit is met, or one fails.
 fn work(
-    pair: Pair,
+    runner: &Runner,
     limit: Limit,
     source: &Source,
     begun: Instant,
@@ -162,7 +185,7 @@ fn work(
         let Some(history) = source(i).filter(|_| !over) else {
             return;
         };
-        let (tally, wrong) = fault(pair.0, pair.1, &history);
+        let (tally, wrong) = runner(&history);
         let mut done = shared.done.lock().expect("no core panicked");
         done.0 += tally;
         progress(done.0);

@@ -186,14 +186,15 @@ pub fn clock() -> f64 {
     low(&mut (0..2_001).map(|_| timed(|| ()).0).collect::<Vec<f64>>())
 }
 
-fn timed<T>(call: impl FnOnce() -> T) -> (f64, T) {
+/// How long a call takes, and what it gives.
+pub fn timed<T>(call: impl FnOnce() -> T) -> (f64, T) {
     let begun = Instant::now();
     let answer = black_box(call());
     (begun.elapsed().as_nanos() as f64, answer)
 }
 
 /// What a tenth of a list is below, 0 if it is empty.
-fn low(list: &mut [f64]) -> f64 {
+pub fn low(list: &mut [f64]) -> f64 {
     list.sort_by(f64::total_cmp);
     list.get(list.len() / 10).copied().unwrap_or(0.0)
 }

@@ -72,6 +72,7 @@ pub mod ReadsReads
 pub mod HostRuns
 pub mod HostRunsProved
 pub mod HostStops
+pub mod HostFits
 pub mod Fewer
 pub mod FewerProved
 pub mod Touched

@@ -34,6 +34,7 @@ use Rattle.promises.specs.Fewer.{AsBefore, Counts, Bounds, Closer}
 use Rattle.promises.specs.Goals.{Goals}
 use Rattle.promises.specs.Field.{Since, Demand3Field}
 use Rattle.promises.specs.HostRuns.{HostHistories}
+use Rattle.promises.specs.HostFits.{HostFits}
 use Rattle.promises.specs.Worries.{SyncAtTop, WornOnlyLooks, NoCountAbove, CountsUsedUp, NoneWakes}
 
 pub record Promises : Type 1 where
@@ -94,6 +95,7 @@ pub record Promises : Type 1 where
   pub goals : Goals
   -- ---- what a module runs: a history of host functions is a history of calls
   pub hostHistories : HostHistories
+  pub hostFits : HostFits
   -- ---- the tester's worries, of histories from any sound card; a card just made is one
   pub everyCut : Demand3Field
   pub fromFresh : (w : World) → Reach w → Since w

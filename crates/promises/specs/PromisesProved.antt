@@ -30,6 +30,7 @@ use Rattle.promises.specs.BoundProved.{bounds, closer}
 use Rattle.promises.specs.Goals.{goals}
 use Rattle.promises.specs.FieldProved.{demand-three-field, since, fits-since}
 use Rattle.promises.specs.HostStops.{host-histories}
+use Rattle.promises.specs.HostFits.{host-fits}
 use Rattle.promises.specs.WorriesProved.{sync-at-top, worn-only-looks, no-count-above, counts-used-up}
 use Rattle.promises.specs.Wakes.{none-wakes}
 use Rattle.promises.specs.Promises.{Promises}
@@ -87,6 +88,7 @@ promises =
       closer = closer;
       goals = goals;
       hostHistories = host-histories;
+      hostFits = host-fits;
       everyCut = demand-three-field;
       fromFresh = λ w r. since r;
       syncAtTop = sync-at-top;
