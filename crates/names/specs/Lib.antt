@@ -1,1 +1,1 @@
-pub mod Hash
+pub mod NameHash

@@ -14,7 +14,7 @@ use Rattle.words.specs.BoolLaws.{both, falsum}
 use Rattle.words.specs.EveryLaws.{every-all, pair-next, pair-rest}
 use Rattle.words.specs.EveryMore.{eqList-eq}
 use Rattle.entries.specs.Entries.{nameOf}
-use Rattle.names.specs.Hash.{hashOf}
+use Rattle.names.specs.NameHash.{hashOf}
 use Rattle.directory.specs.Directory.{gone, apart}
 use Rattle.directory.specs.ApartLaws.{apart-unlike}
 use Rattle.apages.specs.Bits.{bitAt, putBit}
