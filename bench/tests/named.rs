@@ -47,20 +47,20 @@ fn part_of_name(c: char) -> bool {
     c.is_alphanumeric() || c == '_' || c == '-' || c == '\''
 }
 
-/// The text of crate/file, wherever it stands in the crate.
+/// The text of crate/file, wherever it stands in the crate; of all that have the
+/// name, if a folder has it too.
 fn antt(krate: &str, file: &str) -> Option<String> {
     let home = root().join("crates").join(krate);
     let mut folders = vec![home.join("specs"), home.join("proofs")];
+    let mut found = Vec::new();
     while let Some(folder) = folders.pop() {
-        if let Ok(text) = fs::read_to_string(folder.join(format!("{file}.antt"))) {
-            return Some(text);
-        }
+        found.extend(fs::read_to_string(folder.join(format!("{file}.antt"))));
         let Ok(entries) = fs::read_dir(&folder) else {
             continue;
         };
         folders.extend(entries.flatten().map(|e| e.path()).filter(|p| p.is_dir()));
     }
-    None
+    (!found.is_empty()).then(|| found.join("\n"))
 }
 
 fn edit(krate: &str, file: &str) -> bool {
@@ -196,4 +196,55 @@ fn functions() {
         }
     }
     assert!(wrong.is_empty(), "{}", wrong.join("\n"));
+}
+
+/// The lines of a file with text, imports aside.
+fn lines_of(file: &Path) -> usize {
+    let text = fs::read_to_string(file).expect("a file of definitions");
+    let told = |line: &&str| !line.is_empty() && !line.starts_with("use ");
+    text.lines().filter(told).count()
+}
+
+/// Every file of a crate's specs but the one that names the others.
+fn specs_of(krate: &str) -> Vec<PathBuf> {
+    let mut folders = vec![root().join("crates").join(krate).join("specs")];
+    let mut files = Vec::new();
+    while let Some(folder) = folders.pop() {
+        let Ok(entries) = fs::read_dir(folder) else {
+            continue;
+        };
+        for path in entries.flatten().map(|entry| entry.path()) {
+            if path.is_dir() {
+                folders.push(path);
+            } else if !path.ends_with("Lib.antt") {
+                files.push(path);
+            }
+        }
+    }
+    files
+}
+
+#[test]
+fn what_must_be_believed() {
+    let page = fs::read_to_string(root().join("docs/BELIEVE.md")).expect("the page");
+    let rows: BTreeSet<(String, usize)> = page
+        .lines()
+        .filter_map(|line| {
+            let mut cells = line.split('|').skip(1).map(str::trim);
+            let (file, lines) = (cells.next()?, cells.next()?);
+            Some((file.to_string(), lines.parse().ok()?))
+        })
+        .collect();
+    let mut files = BTreeSet::new();
+    for krate in crates() {
+        for path in specs_of(&krate) {
+            let name = path.file_stem().unwrap().to_string_lossy().into_owned();
+            files.insert((format!("{krate}/{name}"), lines_of(&path)));
+        }
+    }
+    let wrong: Vec<_> = rows.symmetric_difference(&files).collect();
+    assert!(wrong.is_empty(), "{wrong:?}");
+    let sum: usize = files.iter().map(|(_, lines)| lines).sum();
+    let told = page.lines().last().unwrap_or("").replace(',', "");
+    assert_eq!(told, format!("{} files {sum} lines.", files.len()));
 }

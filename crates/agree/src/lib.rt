@@ -5,7 +5,7 @@ ghost use Prim.Native.Nat.{_≤_};
 ghost use lib.ListN.{length};
 ghost use Rattle.words.specs.Lists.{every};
 ghost use Rattle.sectors.specs.Sectors.{sec};
-ghost use Rattle.counts.specs.TableLaws.{InLimits, LaidOut};
+ghost use Rattle.counts.specs.Inner.{InLimits, LaidOut};
 ghost use Rattle.directory.specs.Directory.{entriesOf};
 ghost use Rattle.session.specs.Fits.{sizesOk, headOk, wordOk, stampAtMost, entryAtMost, indexAtMost};
 use counts::Stamp;

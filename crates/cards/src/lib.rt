@@ -11,7 +11,7 @@ ghost use Rattle.card.specs.Plan.{refused};
 ghost use Rattle.card.specs.Sound.{shapeOk};
 ghost use Rattle.store.specs.Mount.{mount};
 ghost use Rattle.store.specs.Sync.{land, sync, unmount};
-ghost use Rattle.store.specs.Fitting.{FitOn};
+ghost use Rattle.store.specs.Inner.{FitOn};
 use card::Answer;
 use card::refusal;
 use card::success;

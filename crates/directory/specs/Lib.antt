@@ -1,5 +1,2 @@
 pub mod Directory
-pub mod SpotLaws
-pub mod NameLaws
-pub mod DirectoryLaws
-pub mod ApartLaws
+pub mod Inner

@@ -4,7 +4,7 @@
 // one is that test and then the inner one.
 ghost use mathlib.Core.Path.{_≡_};
 ghost use Rattle.store.specs.Edit.{putAt, put, remove};
-ghost use Rattle.store.specs.Fitting.{FitOf};
+ghost use Rattle.store.specs.Inner.{FitOf};
 use card::Answer;
 use card::refusal;
 use card::success;

@@ -1,5 +1,2 @@
 pub mod Entries
-pub mod PassLaws
-pub mod CodecLaws
-pub mod EntryLaws
-pub mod ChangeLaws
+pub mod Inner

@@ -2,7 +2,7 @@
 ghost use mathlib.Core.Path.{_≡_};
 ghost use Rattle.words.specs.Lists.{every};
 ghost use Rattle.sectors.specs.Sectors.{sec};
-ghost use Rattle.counts.specs.TableLaws.{LaidOut};
+ghost use Rattle.counts.specs.Inner.{LaidOut};
 ghost use Rattle.session.specs.Fits.{tableFits, viewsFit, stampsFit, fits};
 use session::Opened;
 

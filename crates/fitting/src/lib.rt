@@ -1,13 +1,13 @@
 // The store for a module that answers for its session: the functions of crate host without the test of the fit.
 //
 // A caller must know what each function requires: that an open session fits the working image it is lent. In a history it always does
-// (`always-fits`, promises/FitHistory): every session starts with our mount, only the newest is used, and nobody else touches the images. A closed session
+// (`always-fits`, crash/FitHistory): every session starts with our mount, only the newest is used, and nobody else touches the images. A closed session
 // is taken, and answered 4. Each function then answers as the one of crate host with the same signature, byte for byte: its `ensures` is the same.
 //
 // Slices, arrays and numbers cross as in crate host, a session as the same 24 bytes; mount, make and reading are that crate's.
 ghost use mathlib.Core.Path.{_≡_};
 ghost use Rattle.store.specs.Edit.{put, putAt, remove};
-ghost use Rattle.store.specs.Fitting.{FitOf};
+ghost use Rattle.store.specs.Inner.{FitOf};
 ghost use Rattle.store.specs.Look.{get, free};
 ghost use Rattle.store.specs.Sync.{land, sync, unmount};
 ghost use Rattle.crossing.specs.Crossing.{decoded, roomed, kept};

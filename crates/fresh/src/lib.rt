@@ -4,7 +4,7 @@ ghost use Prim.Native.Nat.{_+_, _*_, _≤_, _<_};
 ghost use lib.ListN.{length, replicate};
 ghost use Rattle.sectors.specs.Sectors.{setSec};
 ghost use Rattle.counts.specs.Geometry.{gP};
-ghost use Rattle.counts.specs.TableLaws.{InLimits, LaidOut};
+ghost use Rattle.counts.specs.Inner.{InLimits, LaidOut};
 ghost use Rattle.apages.specs.Runs.{dataFrom, dataTo, freshPage};
 ghost use Rattle.card.specs.Make.{blockBytes, freshGroup, freshIndex, freshPages, freshCard, make};
 use apages::Index;

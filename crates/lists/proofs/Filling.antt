@@ -29,7 +29,8 @@ use Rattle.card.specs.Plan.{Listed}
 use Rattle.card.proofs.Line as T
 use Rattle.lists.specs.declared.Listing.{Listing}
 use Rattle.lists.specs.Listings.{filesAt, filledTo}
-use Rattle.lists.specs.ListingLaws.{HasRoom, Fills}
+use Rattle.lists.specs.Inner.{HasRoom}
+use Rattle.lists.proofs.ListingLaws.{Fills}
 use Rattle.lists.proofs.Listing as Z
 use Rattle.lists.proofs.fill_lines as fill
 

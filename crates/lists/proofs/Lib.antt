@@ -1,2 +1,5 @@
 -- What the proofs of several functions share.
 pub mod Filling
+pub mod ListingText
+pub mod ListingLaws
+pub mod ListingTests

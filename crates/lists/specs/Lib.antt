@@ -1,4 +1,2 @@
 pub mod Listings
-pub mod ListingText
-pub mod ListingLaws
-pub mod ListingTests
+pub mod Inner

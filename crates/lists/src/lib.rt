@@ -4,13 +4,13 @@
 // session as the 24 bytes that crate host names. No two lent buffers may overlap.
 ghost use mathlib.Core.Path.{_≡_};
 ghost use lib.ListN.{length, getD};
-ghost use Rattle.counts.specs.TableLaws.{LaidOut};
+ghost use Rattle.counts.specs.Inner.{LaidOut};
 ghost use Rattle.card.specs.Files.{noLine};
 ghost use Rattle.card.specs.Reading.{readList};
 ghost use Rattle.store.specs.Look.{list};
 ghost use Rattle.crossing.specs.Crossing.{decoded};
 ghost use Rattle.lists.specs.Listings.{filesAt, noListing, listingIn, sessionListing, cardListing, filledTo};
-ghost use Rattle.lists.specs.ListingLaws.{HasRoom};
+ghost use Rattle.lists.specs.Inner.{HasRoom};
 use card::Answer;
 use card::Line;
 use card::refusal;

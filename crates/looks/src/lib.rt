@@ -6,7 +6,7 @@ ghost use mathlib.Core.Path.{_≡_};
 ghost use Rattle.card.specs.Plan.{refused};
 ghost use Rattle.card.specs.Files.{noLine};
 ghost use Rattle.store.specs.Look.{get, line, noFigures, free};
-ghost use Rattle.store.specs.Fitting.{FitOf};
+ghost use Rattle.store.specs.Inner.{FitOf};
 use card::Answer;
 use card::Lined;
 use card::refusal;

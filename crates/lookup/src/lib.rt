@@ -5,7 +5,7 @@ ghost use lib.ListN.{length};
 ghost use Rattle.words.specs.Lists.{firstAt};
 ghost use Rattle.sectors.specs.Sectors.{sec};
 ghost use Rattle.counts.specs.Stamps.{tableIn};
-ghost use Rattle.counts.specs.TableLaws.{LaidOut};
+ghost use Rattle.counts.specs.Inner.{LaidOut};
 ghost use Rattle.directory.specs.Directory.{entriesOf, gone, named};
 use counts::Geo;
 use counts::View;

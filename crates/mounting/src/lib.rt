@@ -8,7 +8,7 @@ ghost use Rattle.words.specs.Bytes.{wordBytes};
 ghost use Rattle.sectors.specs.Sectors.{sec, setSec, applySteps, applyStep};
 ghost use Rattle.store.specs.Steps.{setCount, setWord, mountSteps};
 ghost use Rattle.store.specs.Mount.{openedFrom, mountDone};
-ghost use Rattle.store.specs.WriteLaws.{CanMount};
+ghost use Rattle.store.specs.Inner.{CanMount};
 use counts::CrashCount;
 use counts::TxCount;
 use sectors::Sector;

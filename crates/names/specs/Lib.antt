@@ -1,1 +1,1 @@
-pub mod NameHash
+pub mod Inner

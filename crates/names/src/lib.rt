@@ -5,7 +5,7 @@ ghost use lib.ListN.{length};
 ghost use Rattle.words.specs.Lists.{every, eqList};
 ghost use Rattle.words.specs.Bytes.{wordAt};
 ghost use Rattle.entries.specs.Entries.{goodByte, goodName, nameOf, nameOk};
-ghost use Rattle.names.specs.NameHash.{hashStep, hashOf};
+ghost use Rattle.names.specs.Inner.{hashStep, hashOf};
 
 // ---- names
 

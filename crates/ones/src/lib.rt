@@ -4,7 +4,7 @@ ghost use mathlib.Core.Bool.{true};
 ghost use Prim.Native.Nat.{_+_, _*_, _%_, _≤_, _<_};
 ghost use lib.ListN.{length};
 ghost use Rattle.apages.specs.Bits.{bitAt, clearBits};
-ghost use Rattle.apages.specs.Either.{either};
+ghost use Rattle.apages.specs.Inner.{either};
 ghost use Rattle.apages.specs.Ones.{word64At, onesOf, setBits, allSet};
 
 // ---- counted

@@ -1,5 +1,5 @@
 -- What is promised, in one place: each field is one statement, and the file that has its words is named where it is brought in below. `promises` (PromisesProved)
--- proves the record. Demand 1's equations stand in the contracts themselves: `contracts` (tight/Tight). Assumes nothing.
+-- proves the record. Demand 1's equations stand in the contracts themselves: `contracts` (tight/TightProved). Assumes nothing.
 use mathlib.Core.Path.{_≡_}
 use mathlib.Core.Bool.{false}
 use mathlib.Core.List.{List, [], _∷_}
@@ -13,29 +13,29 @@ use Rattle.session.specs.declared.Session.the-variants.{Open}
 use Rattle.store.specs.Steps.{mountSteps, syncSteps, unmountSteps}
 use Rattle.store.specs.Edit.{putPlan, putRun, putAt, removePlan, remove}
 use Rattle.store.specs.Look.{free}
-use Rattle.promises.specs.Numbers.{Row, Gives, Numbers}
-use Rattle.promises.specs.Refusals.{Refusals}
-use Rattle.promises.specs.NoTwo.{NoTwo, InTable}
-use Rattle.promises.specs.PlainCalls.{AllShow}
-use Rattle.promises.specs.Answers.{PutAnswers, RemoveAnswers}
-use Rattle.promises.specs.Steady.{MakeShows, MountShows, MountCut, SyncShows, UnmountShows, LandShows, Refused}
-use Rattle.promises.specs.Places.{PutPlaces, RemovePlaces}
-use Rattle.promises.specs.Untouched.{Untouched}
-use Rattle.promises.specs.PairLeaves.{PutPairs, RemovePairs}
-use Rattle.promises.specs.Barriers.{barriersFrom, barriers, copies}
-use Rattle.promises.specs.Leaves.{LandChanges, MountChanges, SyncChanges, UnmountChanges, CountsNothing}
-use Rattle.promises.specs.Along.{Simulation}
-use Rattle.promises.specs.FitKept.{FitsIn, KeepsFit}
-use Rattle.promises.specs.History.{Left, World, Call, before, stepsOf, pendingIn, Reach, Demand3}
-use Rattle.promises.specs.Whole.{CutsReadWhole}
-use Rattle.promises.specs.Sharp.{UnmountSharp}
-use Rattle.promises.specs.Free.{FreePromise, MountFree}
-use Rattle.promises.specs.Fewer.{AsBefore, Counts, Bounds, Closer}
-use Rattle.promises.specs.Goals.{Goals}
-use Rattle.promises.specs.Field.{Since, Demand3Field}
-use Rattle.promises.specs.HostRuns.{HostHistories}
-use Rattle.promises.specs.HostFits.{HostFits}
-use Rattle.promises.specs.Worries.{SyncAtTop, WornOnlyLooks, NoCountAbove, CountsUsedUp, NoneWakes}
+use Rattle.answers.specs.Numbers.{Row, Gives, Numbers}
+use Rattle.answers.specs.Refusals.{Refusals}
+use Rattle.crash.specs.NoTwo.{NoTwo, InTable}
+use Rattle.answers.specs.PlainCalls.{AllShow}
+use Rattle.answers.specs.Answers.{PutAnswers, RemoveAnswers}
+use Rattle.crash.specs.Steady.{MakeShows, MountShows, MountCut, SyncShows, UnmountShows, LandShows, Refused}
+use Rattle.answers.specs.Places.{PutPlaces, RemovePlaces}
+use Rattle.answers.specs.Untouched.{Untouched}
+use Rattle.answers.specs.PairLeaves.{PutPairs, RemovePairs}
+use Rattle.answers.specs.Barriers.{barriersFrom, barriers, copies}
+use Rattle.crash.specs.Leaves.{LandChanges, MountChanges, SyncChanges, UnmountChanges, CountsNothing}
+use Rattle.crash.specs.Along.{Simulation}
+use Rattle.crash.specs.FitKept.{FitsIn, KeepsFit}
+use Rattle.crash.specs.History.{Left, World, Call, before, stepsOf, pendingIn, Reach, Demand3}
+use Rattle.crash.specs.Whole.{CutsReadWhole}
+use Rattle.crash.specs.Sharp.{UnmountSharp}
+use Rattle.crash.specs.Free.{FreePromise, MountFree}
+use Rattle.crash.specs.Fewer.{AsBefore, Counts, Bounds, Closer}
+use Rattle.answers.specs.Goals.{Goals}
+use Rattle.crash.specs.Field.{Since, Demand3Field}
+use Rattle.crash.specs.HostRuns.{HostHistories}
+use Rattle.crash.specs.HostFits.{HostFits}
+use Rattle.crash.specs.Worries.{SyncAtTop, WornOnlyLooks, NoCountAbove, CountsUsedUp, NoneWakes}
 
 pub record Promises : Type 1 where
   -- ---- the numbers: each call gives k exactly when the table says so; the table's words leave one number, and it is one of 0 to 11

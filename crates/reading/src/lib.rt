@@ -3,7 +3,7 @@ ghost use mathlib.Core.Path.{_≡_};
 ghost use mathlib.Core.Bool.{true};
 ghost use Rattle.card.specs.Sound.{shapeOk, sound};
 ghost use Rattle.card.specs.Reading.{read, readLine, readGet};
-ghost use Rattle.card.specs.ReadLaws.{noReport, noLined};
+ghost use Rattle.card.specs.Inner.{noReport, noLined};
 use card::Answer;
 use card::Lined;
 use card::Report;

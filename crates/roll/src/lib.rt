@@ -7,11 +7,11 @@ ghost use lib.ListN.{length, drop, getD};
 ghost use Rattle.words.specs.Lists.{every, pairwise};
 ghost use Rattle.sectors.specs.Sectors.{sec};
 ghost use Rattle.counts.specs.Stamps.{tableIn};
-ghost use Rattle.counts.specs.TableLaws.{LaidOut};
+ghost use Rattle.counts.specs.Inner.{LaidOut};
 ghost use Rattle.entries.specs.Entries.{nameOf, entryOk};
 ghost use Rattle.directory.specs.Directory.{entriesOf, gone, apart};
 ghost use Rattle.apages.specs.Bits.{bitAt, putBit};
-ghost use Rattle.roll.specs.Marks.{Marking, Known};
+ghost use Rattle.roll.specs.Inner.{Marking, Known};
 use counts::Geo;
 use counts::View;
 

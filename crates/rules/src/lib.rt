@@ -4,7 +4,7 @@ ghost use Prim.Native.Nat.{_+_};
 ghost use lib.ListN.{length};
 ghost use Rattle.sectors.specs.Sectors.{sec};
 ghost use Rattle.counts.specs.Stamps.{tableIn};
-ghost use Rattle.counts.specs.TableLaws.{InLimits, LaidOut};
+ghost use Rattle.counts.specs.Inner.{InLimits, LaidOut};
 ghost use Rattle.entries.specs.Entries.{shownBytes, shown, sectorsFor, runOk, versionOk, entryOk};
 use counts::Geo;
 use counts::View;

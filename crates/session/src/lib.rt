@@ -1,6 +1,6 @@
 // A session: its two views of the working image, and when it fits one.
 ghost use mathlib.Core.Path.{_≡_};
-ghost use Rattle.counts.specs.TableLaws.{InLimits};
+ghost use Rattle.counts.specs.Inner.{InLimits};
 ghost use Rattle.session.specs.Views.{ownStamp, presentView};
 use counts::CrashCount;
 use counts::Geo;

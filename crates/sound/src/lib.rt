@@ -4,7 +4,7 @@ ghost use mathlib.Core.Bool.{true};
 ghost use Prim.Native.Nat.{_+_};
 ghost use Rattle.sectors.specs.Sectors.{sec};
 ghost use Rattle.counts.specs.Stamps.{tableIn};
-ghost use Rattle.counts.specs.TableLaws.{LaidOut};
+ghost use Rattle.counts.specs.Inner.{LaidOut};
 ghost use Rattle.card.specs.Sound.{viewOk, soundIn, shapeOk, sound};
 use counts::CrashCount;
 use counts::Geo;

@@ -4,7 +4,7 @@ ghost use Prim.Native.Nat.{_≤_};
 ghost use lib.ListN.{length, getD};
 ghost use Rattle.sectors.specs.Sectors.{sec};
 ghost use Rattle.counts.specs.Stamps.{tableIn, stampOf, alive, stampOk, deadBelow, sameStamp, standing};
-ghost use Rattle.counts.specs.TableLaws.{InLimits, LaidOut};
+ghost use Rattle.counts.specs.Inner.{InLimits, LaidOut};
 use counts::CrashCount;
 use counts::Geo;
 use counts::Stamp;

@@ -5,8 +5,7 @@ use Prim.Native.Nat.{ℕ, zero, suc, _*_}
 use lib.ListN.{length, getD}
 use lib.Dec.{ltb}
 use Rattle.words.specs.declared.Found.{Found}
-use Rattle.words.specs.Lists.{firstAt, splice, pad}
-unfoldable pub use Rattle.words.specs.Lists.{orElse}
+use Rattle.words.specs.Lists.{firstAt, splice, pad, orElse}
 use Rattle.sectors.specs.Sectors.{sec}
 use Rattle.entries.specs.declared.Run.{Run}
 use Rattle.entries.specs.declared.Version.{Version}

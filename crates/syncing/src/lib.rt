@@ -7,8 +7,7 @@ ghost use Rattle.sectors.specs.Sectors.{sec, applySteps, applyStep, writesIn, l
 ghost use Rattle.counts.specs.Stamps.{maxTx};
 ghost use Rattle.store.specs.Steps.{setCount, setWord, tableSector, pastTable, syncSteps, allSteps, atTop, unmountSteps, allDown, syncedAt, downAt, writtenAt, countedAt, unmountCount, syncWork, unmountWork};
 ghost use Rattle.store.specs.Sync.{grown};
-ghost use Rattle.store.specs.SyncCounts.{countsAt};
-ghost use Rattle.store.specs.WriteLaws.{CanSync};
+ghost use Rattle.store.specs.Inner.{countsAt, CanSync};
 use counts::TxCount;
 use sectors::Sector;
 use session::Opened;

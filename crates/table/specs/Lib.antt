@@ -1,1 +1,1 @@
-pub mod OneWalk
+pub mod Inner

@@ -8,8 +8,8 @@ ghost use Rattle.words.specs.Lists.{every, isZero};
 ghost use Rattle.sectors.specs.Sectors.{sec};
 ghost use Rattle.counts.specs.Geometry.{gN, tableOf};
 ghost use Rattle.counts.specs.Stamps.{maxTx, wordMax, tableOk};
-ghost use Rattle.counts.specs.TableLaws.{LaidOut};
-ghost use Rattle.table.specs.OneWalk.{Judged};
+ghost use Rattle.counts.specs.Inner.{LaidOut};
+ghost use Rattle.table.specs.Inner.{Judged};
 use counts::CrashCount;
 use counts::Geo;
 

@@ -1,14 +1,11 @@
--- Document 02, No. 11, "Inner calls leave that test out, proved to answer as the tested ones do": stated of the contracts that the functions are proved to
--- meet. An inner call asks that an open session fits, and nothing else; what it ensures is what the public call ensures. Assumes nothing.
-use mathlib.Core.Path.{_≡_, refl}
+-- What the contracts of inner functions cite besides the words of the papers: what such a function asks of its caller, and what it answers. Assumes nothing.
+use mathlib.Core.Path.{_≡_}
 use mathlib.Core.List.{List}
 use Prim.Native.Nat.{ℕ}
+use borrow.Fn.Kinds.{PK, RK, In, Out, Dens, resT, endedOf}
 use contract.Lifetimes.{Lfts}
 use denote.Ref.{now}
 use denote.Triple.Clauses.{AtExit}
-use borrow.Fn.Kinds.{PK, RK, In, Out, Dens, resT, endedOf}
-use Rattle.store.specs.Fitting.{FitOf, FitOn}
-use Rattle.crossing.specs.Crossing.{decoded}
 use Rattle.edits.proofs.put.Kinds as put·is
 use Rattle.edits.proofs.put.Reads as put
 use Rattle.edits.proofs.put_fitting.Reads as put_fitting
@@ -63,6 +60,8 @@ use Rattle.fitting.proofs.fitting_sync_count.Reads as fitting_sync_count
 use Rattle.host.proofs.store_unmount.Kinds as store_unmount·is
 use Rattle.host.proofs.store_unmount.Reads as store_unmount
 use Rattle.fitting.proofs.fitting_unmount.Reads as fitting_unmount
+use Rattle.store.specs.Inner.{FitOf, FitOn}
+use Rattle.crossing.specs.Crossing.{decoded}
 
 -- an inner call's contract (Pre, Post) beside that of the public call with the same parameters: it asks what `Asks` says, and says what that call says
 module _ (n : ℕ) (ps : List (PK n)) (r : RK n) (Asks Pre : In n ps) (Post Tested : Out n ps r) where
@@ -91,26 +90,3 @@ pub record InnerCalls : Type 1 where
   pub ofFittingSync : Inner 3 store_sync·is.ps store_sync·is.r (λ κs a. FitOf (decoded (now (a .0))) (now (a .1 .1 .0))) fitting_sync.Pre fitting_sync.Post store_sync.Post
   pub ofFittingSyncCount : Inner 3 store_sync_count·is.ps store_sync_count·is.r (λ κs a. FitOf (decoded (now (a .0))) (now (a .1 .1 .0))) fitting_sync_count.Pre fitting_sync_count.Post store_sync_count.Post
   pub ofFittingUnmount : Inner 3 store_unmount·is.ps store_unmount·is.r (λ κs a. FitOf (decoded (now (a .0))) (now (a .1 .1 .0))) fitting_unmount.Pre fitting_unmount.Post store_unmount.Post
-
-pub inner-calls : InnerCalls
-inner-calls =
-    record {
-      ofPut = λ κs a. (refl, λ x s. refl);
-      ofPutAt = λ κs a. (refl, λ x s. refl);
-      ofRemove = λ κs a. (refl, λ x s. refl);
-      ofGet = λ κs a. (refl, λ x s. refl);
-      ofFree = λ κs a. (refl, λ x s. refl);
-      ofLine = λ κs a. (refl, λ x s. refl);
-      ofLand = λ κs a. (refl, λ x s. refl);
-      ofSync = λ κs a. (refl, λ x s. refl);
-      ofUnmount = λ κs a. (refl, λ x s. refl);
-      ofFittingPut = λ κs a. (refl, λ x s. refl);
-      ofFittingPutAt = λ κs a. (refl, λ x s. refl);
-      ofFittingRemove = λ κs a. (refl, λ x s. refl);
-      ofFittingGet = λ κs a. (refl, λ x s. refl);
-      ofFittingFree = λ κs a. (refl, λ x s. refl);
-      ofFittingLand = λ κs a. (refl, λ x s. refl);
-      ofFittingSync = λ κs a. (refl, λ x s. refl);
-      ofFittingSyncCount = λ κs a. (refl, λ x s. refl);
-      ofFittingUnmount = λ κs a. (refl, λ x s. refl);
-    }

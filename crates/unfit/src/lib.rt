@@ -1,6 +1,6 @@
 // The one test that a public call makes before its inner call: whether it meets a session that does not fit, which it answers with 2.
 ghost use mathlib.Core.Path.{_≡_};
-ghost use Rattle.store.specs.Fitting.{unfit, unfitOn};
+ghost use Rattle.store.specs.Inner.{unfit, unfitOn};
 use session::Session;
 
 // Whether the session is open and does not fit; a closed one is not judged.

@@ -7,10 +7,10 @@ use borrow.Author.Needs.{needs}
 use denote.Ref.{now}
 use lib.ListN.{drop}
 use Rattle.words.specs.Lists.{every}
-use Rattle.words.specs.EveryLaws.{every-stop, every-go, every-end}
+use Rattle.words.proofs.EveryLaws.{every-stop, every-go, every-end}
 use Rattle.sectors.specs.Sectors.{sec}
 use Rattle.directory.specs.Directory.{entriesOf}
-use Rattle.directory.specs.DirectoryLaws.{entries-lt, entries-le, entry-test}
+use Rattle.directory.proofs.DirectoryLaws.{entries-lt, entries-le, entry-test}
 use Rattle.session.specs.Fits.{entryAtMost}
 use Rattle.agree.proofs.entries_at_most.Statement.{statement}
 use Rattle.agree.proofs.entries_at_most.Tie as tie

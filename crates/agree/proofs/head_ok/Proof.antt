@@ -1,5 +1,5 @@
 -- `session::head_ok` meets its contract: by what it reads of sector 0. Assumes nothing.
-use Rattle.session.specs.FitTests.{head-here}
+use Rattle.session.proofs.FitTests.{head-here}
 use borrow.Author.Needs.{needs}
 use Rattle.agree.proofs.head_ok.Statement.{statement}
 use Rattle.agree.proofs.head_ok.Tie as tie

@@ -6,7 +6,7 @@ use borrow.Author.Needs.{needs}
 use denote.Ref.{now}
 use Rattle.counts.specs.Geometry.{gP}
 use Rattle.apages.specs.Index.{everyGroup}
-use Rattle.apages.specs.ChangeLaws.{group-part, groups-start, groups-stop, groups-go, groups-end}
+use Rattle.apages.proofs.ChangeLaws.{group-part, groups-start, groups-stop, groups-go, groups-end}
 use Rattle.session.specs.Fits.{entryAtMost, groupAtMost, indexAtMost}
 use Rattle.agree.proofs.index_at_most.Statement.{statement}
 use Rattle.agree.proofs.index_at_most.Tie as tie

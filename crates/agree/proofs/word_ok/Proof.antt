@@ -1,5 +1,5 @@
 -- `session::word_ok` meets its contract: by whether the session is worn. Assumes nothing.
-use Rattle.session.specs.FitTests.{word-worn, word-open}
+use Rattle.session.proofs.FitTests.{word-worn, word-open}
 use borrow.Author.Needs.{needs}
 use Rattle.agree.proofs.word_ok.Statement.{statement}
 use Rattle.agree.proofs.word_ok.Tie as tie

@@ -1,7 +1,7 @@
 -- Set, then clear: the first leaves every pair one, and the table as it is. Assumes nothing.
 use native.Mathlib.Omega.{arith}
 use denote.Ref.{now}
-use Rattle.apages.specs.AgainLaws.{pairs-again, bits-again}
+use Rattle.apages.proofs.AgainLaws.{pairs-again, bits-again}
 use borrow.Author.Needs.{needs}
 use Rattle.bitmap.proofs.change_bits.Statement.{statement}
 use Rattle.bitmap.proofs.change_bits.Tie as tie

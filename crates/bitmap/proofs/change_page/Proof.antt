@@ -3,10 +3,10 @@ use mathlib.Core.Path.{_∙_}
 use native.Mathlib.Omega.{arith}
 use denote.Ref.{now}
 use Rattle.words.specs.Lists.{setPart}
-use Rattle.words.specs.SpliceLaws.{part-back}
+use Rattle.words.proofs.SpliceLaws.{part-back}
 use Rattle.sectors.specs.Sectors.{sec, setSec}
-use Rattle.sectors.specs.SectorLaws.{sec-part, sec-length}
-use Rattle.apages.specs.RunLaws.{setRun-length}
+use Rattle.sectors.proofs.SectorLaws.{sec-part, sec-length}
+use Rattle.apages.proofs.RunLaws.{setRun-length}
 use borrow.Author.Needs.{needs}
 use Rattle.bitmap.proofs.change_page.Statement.{statement}
 use Rattle.bitmap.proofs.change_page.Tie as tie

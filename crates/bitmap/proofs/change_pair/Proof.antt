@@ -2,11 +2,11 @@
 use Prim.Native.Nat.{_+_}
 use native.Mathlib.Omega.{arith}
 use denote.Ref.{now}
-use Rattle.sectors.specs.SectorLaws.{sec-length}
-use Rattle.counts.specs.TableLaws.{pages-few, dir-is}
+use Rattle.sectors.proofs.SectorLaws.{sec-length}
+use Rattle.counts.proofs.TableLaws.{pages-few, dir-is}
 use Rattle.apages.specs.Index.{indexIn}
-use Rattle.apages.specs.PageLaws.{before-page}
-use Rattle.apages.specs.ChangeLaws.{run-written}
+use Rattle.apages.proofs.PageLaws.{before-page}
+use Rattle.apages.proofs.ChangeLaws.{run-written}
 use borrow.Author.Needs.{needs}
 use Rattle.bitmap.proofs.change_pair.Statement.{statement}
 use Rattle.bitmap.proofs.change_pair.Tie as tie

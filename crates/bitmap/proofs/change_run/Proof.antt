@@ -5,9 +5,9 @@ use Prim.Native.Nat.{ℕ, _+_, _-_, _*_, _/_, _<_}
 use native.Mathlib.Omega.{arith}
 use denote.Ref.{now}
 use lib.ListN.{take, drop}
-use Rattle.counts.specs.TableLaws.{pages-few}
+use Rattle.counts.proofs.TableLaws.{pages-few}
 use Rattle.apages.specs.Index.{indexOf}
-use Rattle.apages.specs.ChangeLaws.{run-none, change-named, run-some}
+use Rattle.apages.proofs.ChangeLaws.{run-none, change-named, run-some}
 use borrow.Author.Needs.{needs}
 use Rattle.bitmap.proofs.change_run.Statement.{statement}
 use Rattle.bitmap.proofs.change_run.Tie as tie

@@ -1,5 +1,5 @@
 -- Each of the two sectors by the rule for what becomes old. Assumes nothing.
-use Rattle.apages.specs.IndexLaws.{changed-text}
+use Rattle.apages.proofs.IndexLaws.{changed-text}
 use borrow.Author.Needs.{needs}
 use Rattle.bitmap.proofs.changed_index.Statement.{statement}
 use Rattle.bitmap.proofs.changed_index.Tie as tie

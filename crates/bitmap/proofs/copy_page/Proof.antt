@@ -4,7 +4,7 @@ use mathlib.Core.List.{List}
 use Prim.Native.Nat.{ℕ}
 use denote.Ref.{now}
 use Rattle.sectors.specs.Sectors.{sec, setSec}
-use Rattle.sectors.specs.SectorLaws.{sec-part, setSec-own}
+use Rattle.sectors.proofs.SectorLaws.{sec-part, setSec-own}
 use borrow.Author.Needs.{needs}
 use Rattle.bitmap.proofs.copy_page.Statement.{statement}
 use Rattle.bitmap.proofs.copy_page.Tie as tie

@@ -3,10 +3,10 @@ use Prim.Native.Nat.{_≤_}
 use native.Mathlib.Omega.{arith}
 use denote.Ref.{now}
 use lib.ListN.{length}
-use Rattle.card.specs.SoundLaws.{shape-inv}
-use Rattle.counts.specs.GeoLaws.{limits}
+use Rattle.card.proofs.SoundLaws.{shape-inv}
+use Rattle.counts.proofs.GeoLaws.{limits}
 use Rattle.counts.specs.Geometry.{gN}
-use Rattle.store.specs.WriteLaws.{count-here}
+use Rattle.store.proofs.WriteLaws.{count-here}
 use Rattle.cards.proofs.has_count.Statement.{statement}
 use Rattle.cards.proofs.has_count.Tie as tie
 

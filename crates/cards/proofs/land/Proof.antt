@@ -1,7 +1,7 @@
 -- The one test, then the inner call. Assumes nothing.
 use borrow.Author.Needs.{needs}
-use Rattle.store.specs.Fitting.{fit-on, met-unfit-on}
-use Rattle.store.specs.CardLaws.{land-2}
+use Rattle.store.proofs.Fitting.{fit-on, met-unfit-on}
+use Rattle.store.proofs.CardLaws.{land-2}
 use Rattle.cards.proofs.land.Statement.{statement}
 use Rattle.cards.proofs.land.Tie as tie
 

@@ -2,9 +2,9 @@
 use borrow.Author.Needs.{needs}
 use native.Mathlib.Omega.{arith}
 use denote.Ref.{now}
-use Rattle.store.specs.Fitting.{open-fits-on}
-use Rattle.store.specs.WriteLaws.{can-sync}
-use Rattle.store.specs.CardLaws.{land-closed, land-1, land-11, land-done}
+use Rattle.store.proofs.Fitting.{open-fits-on}
+use Rattle.store.proofs.WriteLaws.{can-sync}
+use Rattle.store.proofs.CardLaws.{land-closed, land-1, land-11, land-done}
 use Rattle.cards.proofs.land_fitting.Statement.{statement}
 use Rattle.cards.proofs.land_fitting.Tie as tie
 

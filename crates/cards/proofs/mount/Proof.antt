@@ -1,9 +1,9 @@
 -- Its tests in their order; what they showed is what the steps ask. Assumes nothing.
 use mathlib.Core.Path.{refl}
 use borrow.Author.Needs.{needs}
-use Rattle.store.specs.CallLaws.{passed, failed}
-use Rattle.store.specs.WriteLaws.{can-mount}
-use Rattle.store.specs.CardLaws.{mount-shape, mount-size, mount-2, mount-3, mount-done}
+use Rattle.store.proofs.CallLaws.{passed, failed}
+use Rattle.store.proofs.WriteLaws.{can-mount}
+use Rattle.store.proofs.CardLaws.{mount-shape, mount-size, mount-2, mount-3, mount-done}
 use borrow.Author.Tests.{ltb-true}
 use Rattle.cards.proofs.mount.Statement.{statement}
 use Rattle.cards.proofs.mount.Tie as tie

@@ -1,8 +1,8 @@
 -- The one test, then the inner call. Assumes nothing.
 use borrow.Author.Needs.{needs}
 use mathlib.Core.Path.{_∙_}
-use Rattle.store.specs.Fitting.{fit-on, met-unfit-on}
-use Rattle.store.specs.SyncCalls.{sync-2}
+use Rattle.store.proofs.Fitting.{fit-on, met-unfit-on}
+use Rattle.store.proofs.SyncCalls.{sync-2}
 use Rattle.cards.proofs.sync.Statement.{statement}
 use Rattle.cards.proofs.sync.Tie as tie
 

@@ -1,9 +1,9 @@
 -- Its tests in their order; the fit that it requires gives what the steps ask. Assumes nothing.
 use borrow.Author.Needs.{needs}
 use mathlib.Core.Path.{refl}
-use Rattle.store.specs.Fitting.{open-fits-on}
-use Rattle.store.specs.WriteLaws.{can-sync}
-use Rattle.store.specs.SyncCalls.{sync-closed, sync-1, sync-9, sync-done}
+use Rattle.store.proofs.Fitting.{open-fits-on}
+use Rattle.store.proofs.WriteLaws.{can-sync}
+use Rattle.store.proofs.SyncCalls.{sync-closed, sync-1, sync-9, sync-done}
 use Rattle.cards.proofs.sync_fitting.Statement.{statement}
 use Rattle.cards.proofs.sync_fitting.Tie as tie
 

@@ -1,9 +1,9 @@
 -- Its tests in their order; the fit that it requires gives what the steps ask. Assumes nothing.
 use borrow.Author.Needs.{needs}
 use mathlib.Core.Path.{refl}
-use Rattle.store.specs.Fitting.{open-fits-on}
-use Rattle.store.specs.WriteLaws.{can-sync}
-use Rattle.store.specs.SyncCalls.{unmount-closed, unmount-1, unmount-done}
+use Rattle.store.proofs.Fitting.{open-fits-on}
+use Rattle.store.proofs.WriteLaws.{can-sync}
+use Rattle.store.proofs.SyncCalls.{unmount-closed, unmount-1, unmount-done}
 use Rattle.cards.proofs.unmount_fitting.Statement.{statement}
 use Rattle.cards.proofs.unmount_fitting.Tie as tie
 

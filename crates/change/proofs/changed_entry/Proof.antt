@@ -1,6 +1,6 @@
 -- The entry's bytes, how its stamp stands, and the change. Assumes nothing.
 use borrow.Author.Needs.{needs}
-use Rattle.store.specs.ViewLaws.{changed-here}
+use Rattle.store.proofs.ViewLaws.{changed-here}
 use Rattle.change.proofs.changed_entry.Statement.{statement}
 use Rattle.change.proofs.changed_entry.Tie as tie
 

@@ -1,9 +1,9 @@
 -- Every decision is made before the first write; content and entry leave the table and the index as they are. Assumes nothing.
 use native.Mathlib.Omega.{arith}
 use borrow.Author.Needs.{needs}
-use Rattle.counts.specs.TableLaws.{pages-few}
-use Rattle.store.specs.ViewLaws.{run-at-here}
-use Rattle.store.specs.EditLaws.{edit-laid, edit-pair, edit-done}
+use Rattle.counts.proofs.TableLaws.{pages-few}
+use Rattle.store.proofs.ViewLaws.{run-at-here}
+use Rattle.store.proofs.EditLaws.{edit-laid, edit-pair, edit-done}
 use Rattle.change.proofs.edit.Statement.{statement}
 use Rattle.change.proofs.edit.Tie as tie
 

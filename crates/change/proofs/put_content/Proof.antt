@@ -1,6 +1,6 @@
 -- Nothing for no sectors; else the content and the zeros behind it are one splice. Assumes nothing.
 use borrow.Author.Needs.{needs}
-use Rattle.store.specs.EditLaws.{content-none, content-put}
+use Rattle.store.proofs.EditLaws.{content-none, content-put}
 use Rattle.change.proofs.put_content.Statement.{statement}
 use Rattle.change.proofs.put_content.Tie as tie
 

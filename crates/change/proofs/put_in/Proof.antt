@@ -2,7 +2,7 @@
 use mathlib.Core.Path.{_∙_}
 use native.Mathlib.Omega.{arith}
 use borrow.Author.Needs.{needs}
-use Rattle.counts.specs.TableLaws.{pages-few}
+use Rattle.counts.proofs.TableLaws.{pages-few}
 use Rattle.store.specs.Edit.{putRun, putWork}
 use Rattle.change.proofs.put_in.Statement.{statement}
 use Rattle.change.proofs.put_in.Tie as tie

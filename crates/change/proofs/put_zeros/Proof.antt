@@ -4,8 +4,8 @@ use Prim.Native.Nat.{_-_, _≤_}
 use native.Mathlib.Omega.{arith}
 use lib.ListN.{length, take, replicate}
 use Rattle.words.specs.Lists.{splice}
-use Rattle.words.specs.SpliceLaws.{splice-length}
-use Rattle.store.specs.EditLaws.{zeros-start, zeros-turn, zeros-end}
+use Rattle.words.proofs.SpliceLaws.{splice-length}
+use Rattle.store.proofs.EditLaws.{zeros-start, zeros-turn, zeros-end}
 use Rattle.change.proofs.put_zeros.Statement.{statement}
 use Rattle.change.proofs.put_zeros.Tie as tie
 

@@ -1,7 +1,7 @@
 -- A change with no content. Assumes nothing.
 use borrow.Author.Needs.{needs}
 use Rattle.store.specs.Edit.{removeWork}
-use Rattle.store.specs.RoomLaws.{can-remove}
+use Rattle.store.proofs.RoomLaws.{can-remove}
 use Rattle.change.proofs.remove_in.Statement.{statement}
 use Rattle.change.proofs.remove_in.Tie as tie
 

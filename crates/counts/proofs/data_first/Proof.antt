@@ -1,7 +1,7 @@
 -- `counts::data_first` meets its contract. Assumes nothing.
 use native.Mathlib.Omega.{arith}
 use borrow.Author.Needs.{needs}
-use Rattle.counts.specs.TableLaws.{dir-data}
+use Rattle.counts.proofs.TableLaws.{dir-data}
 use Rattle.counts.proofs.data_first.Statement.{statement}
 use Rattle.counts.proofs.data_first.Tie as tie
 

@@ -1,7 +1,7 @@
 -- `counts::dir_first` meets its contract. Assumes nothing.
 use native.Mathlib.Omega.{arith}
 use borrow.Author.Needs.{needs}
-use Rattle.counts.specs.TableLaws.{dir-is}
+use Rattle.counts.proofs.TableLaws.{dir-is}
 use Rattle.counts.proofs.dir_first.Statement.{statement}
 use Rattle.counts.proofs.dir_first.Tie as tie
 

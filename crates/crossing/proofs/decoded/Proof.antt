@@ -1,5 +1,5 @@
 -- Six words read. Assumes nothing.
-use Rattle.crossing.specs.CrossingLaws.{decoded-words}
+use Rattle.crossing.proofs.CrossingLaws.{decoded-words}
 use borrow.Author.Needs.{needs}
 use Rattle.crossing.proofs.decoded.Statement.{statement}
 use Rattle.crossing.proofs.decoded.Tie as tie

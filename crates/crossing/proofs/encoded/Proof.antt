@@ -1,5 +1,5 @@
 -- Closed or open. Assumes nothing.
-use Rattle.crossing.specs.CrossingLaws.{encoded-closed, encoded-open}
+use Rattle.crossing.proofs.CrossingLaws.{encoded-closed, encoded-open}
 use borrow.Author.Needs.{needs}
 use Rattle.crossing.proofs.encoded.Statement.{statement}
 use Rattle.crossing.proofs.encoded.Tie as tie

@@ -1,6 +1,6 @@
 -- The number, and the figures in the bytes or the bytes as lent. Assumes nothing.
 use mathlib.Core.Path.{refl}
-use Rattle.crossing.specs.CrossingLaws.{room-refused, room-through}
+use Rattle.crossing.proofs.CrossingLaws.{room-refused, room-through}
 use borrow.Author.Needs.{needs}
 use Rattle.crossing.proofs.give_room.Statement.{statement}
 use Rattle.crossing.proofs.give_room.Tie as tie

@@ -1,6 +1,6 @@
 -- The answer, and the session in the bytes or the bytes as lent. Assumes nothing.
 use mathlib.Core.Path.{refl}
-use Rattle.crossing.specs.CrossingLaws.{keep-refused, keep-through}
+use Rattle.crossing.proofs.CrossingLaws.{keep-refused, keep-through}
 use borrow.Author.Needs.{needs}
 use Rattle.crossing.proofs.keep.Statement.{statement}
 use Rattle.crossing.proofs.keep.Tie as tie

@@ -1,5 +1,5 @@
 -- Six words put into zeros. Assumes nothing.
-use Rattle.crossing.specs.CrossingLaws.{opened-built}
+use Rattle.crossing.proofs.CrossingLaws.{opened-built}
 use borrow.Author.Needs.{needs}
 use Rattle.crossing.proofs.opened_bytes.Statement.{statement}
 use Rattle.crossing.proofs.opened_bytes.Tie as tie

@@ -1,5 +1,5 @@
 -- By the state. Assumes nothing.
-use Rattle.crossing.specs.CrossingLaws.{opened-above, opened-below}
+use Rattle.crossing.proofs.CrossingLaws.{opened-above, opened-below}
 use Rattle.crossing.proofs.opened_of.Statement.{statement}
 use Rattle.crossing.proofs.opened_of.Tie as tie
 

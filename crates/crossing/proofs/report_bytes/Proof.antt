@@ -1,5 +1,5 @@
 -- Four words put into zeros. Assumes nothing.
-use Rattle.crossing.specs.CrossingLaws.{report-built}
+use Rattle.crossing.proofs.CrossingLaws.{report-built}
 use borrow.Author.Needs.{needs}
 use Rattle.crossing.proofs.report_bytes.Statement.{statement}
 use Rattle.crossing.proofs.report_bytes.Tie as tie

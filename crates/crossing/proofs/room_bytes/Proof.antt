@@ -1,5 +1,5 @@
 -- Two words put into zeros. Assumes nothing.
-use Rattle.crossing.specs.CrossingLaws.{room-built}
+use Rattle.crossing.proofs.CrossingLaws.{room-built}
 use borrow.Author.Needs.{needs}
 use Rattle.crossing.proofs.room_bytes.Statement.{statement}
 use Rattle.crossing.proofs.room_bytes.Tie as tie

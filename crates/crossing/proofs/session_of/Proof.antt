@@ -1,5 +1,5 @@
 -- By the state. Assumes nothing.
-use Rattle.crossing.specs.CrossingLaws.{session-closed, session-open}
+use Rattle.crossing.proofs.CrossingLaws.{session-closed, session-open}
 use borrow.Author.Needs.{needs}
 use Rattle.crossing.proofs.session_of.Statement.{statement}
 use Rattle.crossing.proofs.session_of.Tie as tie

@@ -1,5 +1,5 @@
 -- Worn or not. Assumes nothing.
-use Rattle.crossing.specs.CrossingLaws.{state-worn, state-live}
+use Rattle.crossing.proofs.CrossingLaws.{state-worn, state-live}
 use Rattle.crossing.proofs.state_of.Statement.{statement}
 use Rattle.crossing.proofs.state_of.Tie as tie
 

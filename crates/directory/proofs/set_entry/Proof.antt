@@ -5,10 +5,10 @@ use native.Mathlib.Omega.{arith}
 use borrow.Author.Needs.{needs}
 use denote.Ref.{now}
 use lib.ListN.{length}
-use Rattle.directory.specs.DirectoryLaws.{setEntry-flat}
+use Rattle.directory.proofs.DirectoryLaws.{setEntry-flat}
 use Rattle.entries.specs.Entries.{entryBytes}
 use Rattle.words.specs.Lists.{splice}
-use Rattle.words.specs.SpliceLaws.{part-back}
+use Rattle.words.proofs.SpliceLaws.{part-back}
 use Rattle.directory.proofs.set_entry.Statement.{statement}
 use Rattle.directory.proofs.set_entry.Tie as tie
 

@@ -1,7 +1,7 @@
 -- The one test, then the inner call. Assumes nothing.
 use borrow.Author.Needs.{needs}
-use Rattle.store.specs.Fitting.{fit-of, met-unfit}
-use Rattle.store.specs.CallLaws.{put-2}
+use Rattle.store.proofs.Fitting.{fit-of, met-unfit}
+use Rattle.store.proofs.CallLaws.{put-2}
 use Rattle.edits.proofs.put_at.Statement.{statement}
 use Rattle.edits.proofs.put_at.Tie as tie
 

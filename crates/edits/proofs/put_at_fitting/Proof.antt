@@ -1,9 +1,9 @@
 -- Its tests in their order; what they showed, and the fit that it requires, is what the change asks. Assumes nothing.
 use borrow.Author.Needs.{needs}
 use mathlib.Core.Path.{refl, sym, _∙_}
-use Rattle.store.specs.Fitting.{open-fits}
-use Rattle.store.specs.RoomLaws.{can-put}
-use Rattle.store.specs.CallLaws.{passed, failed, run-so, put-closed, put-9, put-5, put-11, put-7, put-8, put-done}
+use Rattle.store.proofs.Fitting.{open-fits}
+use Rattle.store.proofs.RoomLaws.{can-put}
+use Rattle.store.proofs.CallLaws.{passed, failed, run-so, put-closed, put-9, put-5, put-11, put-7, put-8, put-done}
 use Rattle.edits.proofs.put_at_fitting.Statement.{statement}
 use Rattle.edits.proofs.put_at_fitting.Tie as tie
 

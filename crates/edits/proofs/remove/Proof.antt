@@ -1,7 +1,7 @@
 -- The one test, then the inner call. Assumes nothing.
 use borrow.Author.Needs.{needs}
-use Rattle.store.specs.Fitting.{fit-of, met-unfit}
-use Rattle.store.specs.CallLaws.{remove-2}
+use Rattle.store.proofs.Fitting.{fit-of, met-unfit}
+use Rattle.store.proofs.CallLaws.{remove-2}
 use Rattle.edits.proofs.remove.Statement.{statement}
 use Rattle.edits.proofs.remove.Tie as tie
 

@@ -1,8 +1,8 @@
 -- Its tests in their order; what they showed, and the fit that it requires, is what the change asks. Assumes nothing.
 use borrow.Author.Needs.{needs}
-use Rattle.store.specs.Fitting.{open-fits}
-use Rattle.store.specs.ViewLaws.{fit-laid}
-use Rattle.store.specs.CallLaws.{passed, failed, file-here, remove-closed, remove-9, remove-5, remove-6, remove-done}
+use Rattle.store.proofs.Fitting.{open-fits}
+use Rattle.store.proofs.ViewLaws.{fit-laid}
+use Rattle.store.proofs.CallLaws.{passed, failed, file-here, remove-closed, remove-9, remove-5, remove-6, remove-done}
 use Rattle.edits.proofs.remove_fitting.Statement.{statement}
 use Rattle.edits.proofs.remove_fitting.Tie as tie
 

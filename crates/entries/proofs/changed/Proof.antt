@@ -1,6 +1,6 @@
 -- `entries::changed` meets its contract: straight. Assumes nothing.
 use borrow.Author.Needs.{needs}
-use Rattle.entries.specs.EntryLaws.{changedAs}
+use Rattle.entries.specs.Inner.{changedAs}
 use Rattle.entries.proofs.changed.Statement.{statement}
 use Rattle.entries.proofs.changed.Tie as tie
 

@@ -4,11 +4,11 @@ use native.Mathlib.Omega.{arith}
 use borrow.Author.Needs.{needs}
 use denote.Ref.{now}
 use lib.ListN.{length}
-use Rattle.entries.specs.CodecLaws.{versionBytes-length}
+use Rattle.entries.proofs.CodecLaws.{versionBytes-length}
 use Rattle.entries.specs.Entries.{entryBytes}
 use Rattle.words.specs.Bytes.{wordBytes}
-use Rattle.words.specs.SpliceLaws.{Put, put-then, put-whole}
-use Rattle.words.specs.WordLaws.{wordBytes-length}
+use Rattle.words.proofs.SpliceLaws.{Put, put-then, put-whole}
+use Rattle.words.proofs.WordLaws.{wordBytes-length}
 use Rattle.entries.proofs.fill_entry.Statement.{statement}
 use Rattle.entries.proofs.fill_entry.Tie as tie
 

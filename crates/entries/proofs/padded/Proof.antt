@@ -1,7 +1,7 @@
 -- `entries::padded` meets its contract: zeros with the name written over them. Assumes nothing.
 use mathlib.Core.Path.{_∙_}
 use borrow.Author.Needs.{needs}
-use Rattle.entries.specs.CodecLaws.{pad-over}
+use Rattle.entries.proofs.CodecLaws.{pad-over}
 use Rattle.entries.proofs.padded.Statement.{statement}
 use Rattle.entries.proofs.padded.Tie as tie
 

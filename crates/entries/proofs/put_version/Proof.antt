@@ -1,7 +1,7 @@
 -- `entries::put_version` meets its contract: four words put one after the other. Assumes nothing.
 use borrow.Author.Needs.{needs}
 use Rattle.entries.specs.Entries.{versionBytes}
-use Rattle.words.specs.WordLaws.{four-words}
+use Rattle.words.proofs.WordLaws.{four-words}
 use Rattle.entries.proofs.put_version.Statement.{statement}
 use Rattle.entries.proofs.put_version.Tie as tie
 

@@ -3,7 +3,7 @@ use mathlib.Core.Path.{ap, _∙_}
 use borrow.Author.Needs.{needs}
 use Rattle.counts.specs.Stamps.{alive}
 use Rattle.entries.specs.Entries.{versionOf, shown}
-use Rattle.entries.specs.EntryLaws.{shown-here}
+use Rattle.entries.proofs.EntryLaws.{shown-here}
 use Rattle.entries.proofs.shown.Statement.{statement}
 use Rattle.entries.proofs.shown.Tie as tie
 

@@ -1,6 +1,6 @@
 -- From the ones of both pages taken together, and those of the first. Assumes nothing.
 use borrow.Author.Needs.{needs}
-use Rattle.figures.specs.FigureLaws.{busy-most, own-most, by-ones}
+use Rattle.figures.proofs.FigureLaws.{busy-most, own-most, by-ones}
 use Rattle.figures.proofs.count.Statement.{statement}
 use Rattle.figures.proofs.count.Tie as tie
 

@@ -9,11 +9,11 @@ use Rattle.sectors.specs.Sectors.{sec}
 use Rattle.counts.specs.Geometry.{gP}
 use Rattle.counts.specs.Stamps.{tableIn}
 use Rattle.apages.specs.Free.{freeIn, waitingIn}
-use Rattle.apages.specs.FreeLaws.{free-empty, waiting-empty, free-over, waiting-over}
+use Rattle.apages.proofs.FreeLaws.{free-empty, waiting-empty, free-over, waiting-over}
 use Rattle.apages.specs.Index.{pageIn}
-use Rattle.card.specs.ViewLaws.{page-room}
+use Rattle.card.proofs.ViewLaws.{page-room}
 use Rattle.figures.specs.declared.Figures.{Figures}
-use Rattle.figures.specs.FigureLaws.{both-figures, leftIn, page-most, figure-start, figure-turn, figure-end}
+use Rattle.figures.proofs.FigureLaws.{both-figures, leftIn, page-most, figure-start, figure-turn, figure-end}
 use Rattle.figures.proofs.figures_in.Statement.{statement}
 use Rattle.figures.proofs.figures_in.Tie as tie
 

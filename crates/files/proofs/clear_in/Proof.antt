@@ -9,7 +9,7 @@ use Rattle.counts.specs.Geometry.{gP}
 use Rattle.counts.specs.Stamps.{tableIn}
 use Rattle.apages.specs.Bits.{clearBits}
 use Rattle.apages.specs.Index.{mapFrom, pageIn}
-use Rattle.card.specs.ViewLaws.{page-room, clear-start, clear-page, clear-turn, clear-end}
+use Rattle.card.proofs.ViewLaws.{page-room, clear-start, clear-page, clear-turn, clear-end}
 use Rattle.files.proofs.clear_in.Statement.{statement}
 use Rattle.files.proofs.clear_in.Tie as tie
 

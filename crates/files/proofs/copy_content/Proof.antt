@@ -1,6 +1,6 @@
 -- The bytes lent are the content of the run. Assumes nothing.
 use borrow.Author.Needs.{needs}
-use Rattle.card.specs.LineLaws.{content-lent}
+use Rattle.card.proofs.LineLaws.{content-lent}
 use Rattle.files.proofs.copy_content.Statement.{statement}
 use Rattle.files.proofs.copy_content.Tie as tie
 

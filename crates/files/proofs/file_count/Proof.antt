@@ -7,9 +7,9 @@ use borrow.Author.Needs.{needs}
 use Rattle.sectors.specs.Sectors.{sec}
 use Rattle.counts.specs.Stamps.{tableIn}
 use Rattle.directory.specs.Directory.{entriesOf}
-use Rattle.directory.specs.DirectoryLaws.{entries-lt, entries-le}
+use Rattle.directory.proofs.DirectoryLaws.{entries-lt, entries-le}
 use Rattle.card.specs.Files.{filesOf}
-use Rattle.card.specs.LineLaws.{count-go, count-end}
+use Rattle.card.proofs.LineLaws.{count-go, count-end}
 use Rattle.files.proofs.file_count.Statement.{statement}
 use Rattle.files.proofs.file_count.Tie as tie
 

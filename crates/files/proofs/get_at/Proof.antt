@@ -1,8 +1,8 @@
 -- Number 10 or done, by the length of the output. Assumes nothing.
 use native.Mathlib.Omega.{arith}
 use borrow.Author.Needs.{needs}
-use Rattle.card.specs.LineLaws.{room-here}
-use Rattle.card.specs.ReadLaws.{got-short, got-done}
+use Rattle.card.proofs.LineLaws.{room-here}
+use Rattle.card.proofs.ReadLaws.{got-short, got-done}
 use Rattle.files.proofs.get_at.Statement.{statement}
 use Rattle.files.proofs.get_at.Tie as tie
 

@@ -1,8 +1,8 @@
 -- One answer of the definition for each way through the tests. Assumes nothing.
 use borrow.Author.Needs.{needs}
-use Rattle.directory.specs.DirectoryLaws.{entries-length}
-use Rattle.card.specs.LineLaws.{found-lt}
-use Rattle.card.specs.ReadLaws.{got-name, got-none, got-found}
+use Rattle.directory.proofs.DirectoryLaws.{entries-length}
+use Rattle.card.proofs.LineLaws.{found-lt}
+use Rattle.card.proofs.ReadLaws.{got-name, got-none, got-found}
 use Rattle.files.proofs.get_in.Statement.{statement}
 use Rattle.files.proofs.get_in.Tie as tie
 

@@ -1,7 +1,8 @@
 -- The bytes lent are those of entry j. Assumes nothing.
 use mathlib.Core.Path.{ap, _∙_}
 use borrow.Author.Needs.{needs}
-use Rattle.card.specs.LineLaws.{line-here, lineOf}
+use Rattle.card.proofs.LineLaws.{line-here}
+use Rattle.card.specs.Inner.{lineOf}
 use Rattle.files.proofs.line_at.Statement.{statement}
 use Rattle.files.proofs.line_at.Tie as tie
 

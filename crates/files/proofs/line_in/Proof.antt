@@ -7,9 +7,9 @@ use borrow.Author.Needs.{needs}
 use Rattle.sectors.specs.Sectors.{sec}
 use Rattle.counts.specs.Stamps.{tableIn}
 use Rattle.directory.specs.Directory.{entriesOf}
-use Rattle.directory.specs.DirectoryLaws.{entries-lt, entries-le}
+use Rattle.directory.proofs.DirectoryLaws.{entries-lt, entries-le}
 use Rattle.card.specs.Files.{filesOf, noLine, runAt}
-use Rattle.card.specs.LineLaws.{line-stop, line-go, line-end}
+use Rattle.card.proofs.LineLaws.{line-stop, line-go, line-end}
 use Rattle.files.proofs.line_in.Statement.{statement}
 use Rattle.files.proofs.line_in.Tie as tie
 

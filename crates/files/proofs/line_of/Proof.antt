@@ -1,7 +1,7 @@
 -- The fields of the line, one by one. Assumes nothing.
 use borrow.Author.Needs.{needs}
 use Rattle.entries.specs.Entries.{nameBytes}
-use Rattle.card.specs.LineLaws.{lineOf}
+use Rattle.card.specs.Inner.{lineOf}
 use Rattle.files.proofs.line_of.Statement.{statement}
 use Rattle.files.proofs.line_of.Tie as tie
 

@@ -1,7 +1,7 @@
 -- The bytes lent are group p of the index. Assumes nothing.
 use native.Mathlib.Omega.{arith}
-use Rattle.counts.specs.TableLaws.{pages-few}
-use Rattle.card.specs.ViewLaws.{page-here}
+use Rattle.counts.proofs.TableLaws.{pages-few}
+use Rattle.card.proofs.ViewLaws.{page-here}
 use borrow.Author.Needs.{needs}
 use Rattle.files.proofs.page_at.Statement.{statement}
 use Rattle.files.proofs.page_at.Tie as tie

@@ -1,6 +1,6 @@
 -- The bytes lent are those of entry j. Assumes nothing.
 use borrow.Author.Needs.{needs}
-use Rattle.card.specs.LineLaws.{run-here}
+use Rattle.card.proofs.LineLaws.{run-here}
 use Rattle.files.proofs.run_at.Statement.{statement}
 use Rattle.files.proofs.run_at.Tie as tie
 

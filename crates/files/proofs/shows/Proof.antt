@@ -1,6 +1,6 @@
 -- The bytes lent are those of entry j. Assumes nothing.
 use borrow.Author.Needs.{needs}
-use Rattle.card.specs.LineLaws.{shows-here}
+use Rattle.card.proofs.LineLaws.{shows-here}
 use Rattle.files.proofs.shows.Statement.{statement}
 use Rattle.files.proofs.shows.Tie as tie
 

@@ -2,8 +2,8 @@
 use native.Mathlib.Omega.{arith}
 use borrow.Author.Needs.{needs}
 use denote.Ref.{now}
-use Rattle.counts.specs.TableLaws.{pages-cover}
-use Rattle.apages.specs.PageSearch.{search-inside, goal-here, goal-later, goal-below}
+use Rattle.counts.proofs.TableLaws.{pages-cover}
+use Rattle.apages.proofs.PageSearch.{search-inside, goal-here, goal-later, goal-below}
 use Rattle.find.proofs.goal_in.Statement.{statement}
 use Rattle.find.proofs.goal_in.Tie as tie
 

@@ -6,7 +6,8 @@ use borrow.Author.Needs.{needs}
 use denote.Ref.{now}
 use Rattle.sectors.specs.Sectors.{sec}
 use Rattle.counts.specs.Stamps.{tableIn}
-use Rattle.apages.specs.PageSearch.{runFrom, search-inside, search-found, search-go, search-end}
+use Rattle.apages.specs.Inner.{runFrom}
+use Rattle.apages.proofs.PageSearch.{search-inside, search-found, search-go, search-end}
 use Rattle.find.proofs.lowest_in.Statement.{statement}
 use Rattle.find.proofs.lowest_in.Tie as tie
 

@@ -1,8 +1,8 @@
 -- A fit gives the layout; the two searches in their order. Assumes nothing.
 use mathlib.Core.Path.{sym, _∙_}
 use borrow.Author.Needs.{needs}
-use Rattle.store.specs.Edit.{orElse}
-use Rattle.store.specs.ViewLaws.{fit-laid, place-here}
+use Rattle.words.specs.Lists.{orElse}
+use Rattle.store.proofs.ViewLaws.{fit-laid, place-here}
 use Rattle.find.proofs.put_place.Statement.{statement}
 use Rattle.find.proofs.put_place.Tie as tie
 

@@ -1,7 +1,7 @@
 -- Two sectors lent as parts. Assumes nothing.
 use mathlib.Core.Path.{_∙_}
 use denote.Ref.{now}
-use Rattle.sectors.specs.SectorLaws.{sec-part}
+use Rattle.sectors.proofs.SectorLaws.{sec-part}
 use borrow.Author.Needs.{needs}
 use Rattle.find.proofs.run_between.Statement.{statement}
 use Rattle.find.proofs.run_between.Tie as tie

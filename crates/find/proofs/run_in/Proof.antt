@@ -3,9 +3,9 @@ use mathlib.Core.Path.{sym, _∙_}
 use native.Mathlib.Omega.{arith}
 use borrow.Author.Needs.{needs}
 use Rattle.apages.specs.Runs.{runFor}
-use Rattle.apages.specs.LowestLaws.{run-for-some}
+use Rattle.apages.proofs.LowestLaws.{run-for-some}
 use Rattle.store.specs.Edit.{runIn}
-use Rattle.store.specs.ViewLaws.{fit-laid, fit-pair, run-here}
+use Rattle.store.proofs.ViewLaws.{fit-laid, fit-pair, run-here}
 use Rattle.find.proofs.run_in.Statement.{statement}
 use Rattle.find.proofs.run_in.Tie as tie
 

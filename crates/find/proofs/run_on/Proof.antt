@@ -2,7 +2,7 @@
 use mathlib.Core.Path.{_∙_}
 use denote.Ref.{now}
 use Rattle.apages.specs.Index.{pageAt}
-use Rattle.card.specs.ViewLaws.{page-room}
+use Rattle.card.proofs.ViewLaws.{page-room}
 use borrow.Author.Needs.{needs}
 use Rattle.find.proofs.run_on.Statement.{statement}
 use Rattle.find.proofs.run_on.Tie as tie

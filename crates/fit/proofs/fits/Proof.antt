@@ -1,5 +1,5 @@
 -- `session::fits` meets its contract: the sizes first, then the rest in three parts. Assumes nothing.
-use Rattle.session.specs.FitTests.{fits-no, fits-laid, fits-yes}
+use Rattle.session.proofs.FitTests.{fits-no, fits-laid, fits-yes}
 use borrow.Author.Needs.{needs}
 use Rattle.fit.proofs.fits.Statement.{statement}
 use Rattle.fit.proofs.fits.Tie as tie

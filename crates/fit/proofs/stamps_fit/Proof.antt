@@ -1,5 +1,5 @@
 -- `session::stamps_fit` meets its contract: the entries, then the index. Assumes nothing.
-use Rattle.session.specs.FitTests.{stamps-here}
+use Rattle.session.proofs.FitTests.{stamps-here}
 use borrow.Author.Needs.{needs}
 use Rattle.fit.proofs.stamps_fit.Statement.{statement}
 use Rattle.fit.proofs.stamps_fit.Tie as tie

@@ -1,5 +1,5 @@
 -- `session::table_fits` meets its contract: by what its calls ensure. Assumes nothing.
-use Rattle.session.specs.FitTests.{table-here}
+use Rattle.session.proofs.FitTests.{table-here}
 use borrow.Author.Needs.{needs}
 use Rattle.fit.proofs.table_fits.Statement.{statement}
 use Rattle.fit.proofs.table_fits.Tie as tie

@@ -1,5 +1,5 @@
 -- `session::views_fit` meets its contract: by what its calls ensure of both views. Assumes nothing.
-use Rattle.session.specs.FitTests.{views-here}
+use Rattle.session.proofs.FitTests.{views-here}
 use borrow.Author.Needs.{needs}
 use Rattle.fit.proofs.views_fit.Statement.{statement}
 use Rattle.fit.proofs.views_fit.Tie as tie

@@ -5,7 +5,7 @@ use native.Mathlib.Omega.{arith}
 use lib.ListN.{length, take, replicate}
 use borrow.Author.Needs.{needs}
 use Rattle.words.specs.Lists.{splice}
-use Rattle.card.specs.BuiltLaws.{clear-turn, clear-end, clear-start}
+use Rattle.card.proofs.BuiltLaws.{clear-turn, clear-end, clear-start}
 use Rattle.fresh.proofs.clear.Statement.{statement}
 use Rattle.fresh.proofs.clear.Tie as tie
 

@@ -1,6 +1,6 @@
 -- Four words put into a fresh sector. Assumes nothing.
 use borrow.Author.Needs.{needs}
-use Rattle.card.specs.BuiltLaws.{block-built}
+use Rattle.card.proofs.BuiltLaws.{block-built}
 use Rattle.fresh.proofs.fresh_block.Statement.{statement}
 use Rattle.fresh.proofs.fresh_block.Tie as tie
 

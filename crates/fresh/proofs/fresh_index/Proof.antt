@@ -7,7 +7,7 @@ use lib.ListN.{length}
 use Rattle.words.specs.Lists.{pad}
 use Rattle.counts.specs.Geometry.{gP}
 use Rattle.card.specs.Make.{freshGroups, freshIndex}
-use Rattle.card.specs.MakeLaws.{group-turn}
+use Rattle.card.proofs.MakeLaws.{group-turn}
 use Rattle.fresh.proofs.fresh_index.Statement.{statement}
 use Rattle.fresh.proofs.fresh_index.Tie as tie
 

@@ -1,6 +1,6 @@
 -- Two runs of bits set in a page of zeros. Assumes nothing.
 use borrow.Author.Needs.{needs}
-use Rattle.card.specs.FreshPage.{fresh-built}
+use Rattle.card.proofs.FreshPage.{fresh-built}
 use Rattle.fresh.proofs.fresh_page.Statement.{statement}
 use Rattle.fresh.proofs.fresh_page.Tie as tie
 

@@ -5,9 +5,9 @@ use native.Mathlib.Omega.{arith}
 use borrow.Author.Needs.{needs}
 use lib.ListN.{length}
 use Rattle.counts.specs.Geometry.{gP}
-use Rattle.counts.specs.TableLaws.{dir-is}
+use Rattle.counts.proofs.TableLaws.{dir-is}
 use Rattle.card.specs.Make.{freshPages}
-use Rattle.card.specs.MakeLaws.{fresh-turn, fresh-end}
+use Rattle.card.proofs.MakeLaws.{fresh-turn, fresh-end}
 use Rattle.fresh.proofs.fresh_pages.Statement.{statement}
 use Rattle.fresh.proofs.fresh_pages.Tie as tie
 

@@ -2,8 +2,8 @@
 use mathlib.Core.Path.{sym, _∙_}
 use borrow.Author.Tests.{not-false}
 use borrow.Author.Needs.{needs}
-use Rattle.counts.specs.TableLaws.{ok-laid}
-use Rattle.card.specs.MakeLaws.{make-geo, make-size, make-done}
+use Rattle.counts.proofs.TableLaws.{ok-laid}
+use Rattle.card.proofs.MakeLaws.{make-geo, make-size, make-done}
 use Rattle.fresh.proofs.make.Statement.{statement}
 use Rattle.fresh.proofs.make.Tie as tie
 

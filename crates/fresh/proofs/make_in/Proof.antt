@@ -1,7 +1,7 @@
 -- Block, index and pages written over zeros. Assumes nothing.
 use mathlib.Core.Path.{refl, _∙_}
 use borrow.Author.Needs.{needs}
-use Rattle.card.specs.MakeLaws.{fresh-start}
+use Rattle.card.proofs.MakeLaws.{fresh-start}
 use Rattle.fresh.proofs.make_in.Statement.{statement}
 use Rattle.fresh.proofs.make_in.Tie as tie
 

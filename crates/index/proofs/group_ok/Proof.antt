@@ -1,6 +1,6 @@
 -- The calls' answers together are the definition. Assumes nothing.
 use denote.Ref.{now}
-use Rattle.apages.specs.ChangeLaws.{group-tested}
+use Rattle.apages.proofs.ChangeLaws.{group-tested}
 use borrow.Author.Needs.{needs}
 use Rattle.index.proofs.group_ok.Statement.{statement}
 use Rattle.index.proofs.group_ok.Tie as tie

@@ -8,7 +8,7 @@ use Rattle.sectors.specs.Sectors.{sec}
 use Rattle.counts.specs.Geometry.{gP}
 use Rattle.counts.specs.Stamps.{tableIn}
 use Rattle.apages.specs.Index.{groupOk, everyGroup}
-use Rattle.apages.specs.ChangeLaws.{group-part, groups-start, groups-stop, groups-go, groups-end}
+use Rattle.apages.proofs.ChangeLaws.{group-part, groups-start, groups-stop, groups-go, groups-end}
 use Rattle.index.proofs.groups_ok.Statement.{statement}
 use Rattle.index.proofs.groups_ok.Tie as tie
 

@@ -6,7 +6,7 @@ use lib.ListN.{take, drop, length-drop}
 use lib.Seq.{take-all}
 use denote.Ref.{now}
 use Rattle.words.specs.Lists.{every, isZero}
-use Rattle.apages.specs.ChangeLaws.{index-tested}
+use Rattle.apages.proofs.ChangeLaws.{index-tested}
 use borrow.Author.Needs.{needs}
 use Rattle.index.proofs.index_ok.Statement.{statement}
 use Rattle.index.proofs.index_ok.Tie as tie

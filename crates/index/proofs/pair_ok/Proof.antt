@@ -1,6 +1,6 @@
 -- The test is the definition. Assumes nothing.
 use native.Mathlib.Omega.{arith}
-use Rattle.counts.specs.TableLaws.{pages-few}
+use Rattle.counts.proofs.TableLaws.{pages-few}
 use Rattle.apages.specs.Index.{pairOk}
 use borrow.Author.Needs.{needs}
 use Rattle.index.proofs.pair_ok.Statement.{statement}

@@ -1,5 +1,5 @@
 -- Four words one after the other. Assumes nothing.
-use Rattle.words.specs.WordLaws.{four-words}
+use Rattle.words.proofs.WordLaws.{four-words}
 use Rattle.apages.specs.Index.{groupBytes}
 use borrow.Author.Needs.{needs}
 use Rattle.index.proofs.put_group.Statement.{statement}

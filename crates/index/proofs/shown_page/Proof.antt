@@ -1,6 +1,6 @@
 -- A or B by the stamp's life. Assumes nothing.
 use denote.Ref.{now}
-use Rattle.apages.specs.ChangeLaws.{page-new, page-old}
+use Rattle.apages.proofs.ChangeLaws.{page-new, page-old}
 use borrow.Author.Needs.{needs}
 use Rattle.index.proofs.shown_page.Statement.{statement}
 use Rattle.index.proofs.shown_page.Tie as tie

@@ -1,8 +1,8 @@
 -- Its tests in their order; the shape gives the layout. Assumes nothing.
 use borrow.Author.Needs.{needs}
-use Rattle.card.specs.SoundTests.{shape-length, shape-laid, shape-limits}
-use Rattle.store.specs.CallLaws.{passed, failed}
-use Rattle.lists.specs.ListingTests.{card-1, card-2, card-go}
+use Rattle.card.proofs.SoundTests.{shape-length, shape-laid, shape-limits}
+use Rattle.store.proofs.CallLaws.{passed, failed}
+use Rattle.lists.proofs.ListingTests.{card-1, card-2, card-go}
 use Rattle.lists.proofs.card_listing.Statement.{statement}
 use Rattle.lists.proofs.card_listing.Tie as tie
 

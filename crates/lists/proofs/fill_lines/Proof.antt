@@ -50,7 +50,7 @@ use denote.Triple.Entry.{onEntry}
 use denote.Triple.Spec.{Meets, tripleOf}
 use denote.Triple.Table.{entered, cited}
 use denote.Triple.Walked.{says, needs, Stays, stay-slice, stay-none, stay-none-slice, walkOf, Walks, ends-at, walked, goes-slice, goes-none, goes-none-slice, walk-meets}
-use Rattle.counts.specs.TableLaws.{LaidOut}
+use Rattle.counts.specs.Inner.{LaidOut}
 use Rattle.card.specs.declared.Line.{Line}
 use Rattle.card.specs.Files.{noLine}
 use Rattle.card.proofs.Line as T
@@ -59,7 +59,8 @@ use Rattle.card.proofs.Answer as N
 use Rattle.card.proofs.Answer.Laws as N′
 use Rattle.lists.specs.declared.Listing.{Listing}
 use Rattle.lists.specs.Listings.{filesAt, filledTo}
-use Rattle.lists.specs.ListingLaws.{length-filledTo, HasRoom}
+use Rattle.lists.proofs.ListingLaws.{length-filledTo}
+use Rattle.lists.specs.Inner.{HasRoom}
 use Rattle.lists.proofs.Listing as Z
 use Rattle.lists.proofs.Listing.Laws as Z′
 use Rattle.lists.proofs.line_of as line

@@ -49,7 +49,8 @@ use Rattle.session.proofs.Session as E
 use Rattle.session.proofs.Session.Laws as E′
 use Rattle.lists.specs.declared.Listing.{Listing}
 use Rattle.lists.specs.Listings.{sessionListing}
-use Rattle.lists.specs.ListingLaws.{HasRoom, list-ready, Fills, list-fills}
+use Rattle.lists.specs.Inner.{HasRoom}
+use Rattle.lists.proofs.ListingLaws.{list-ready, Fills, list-fills}
 use Rattle.lists.proofs.Filling.{Lasts, Filled, told, Fill, imgVal, tableVal, Img, to-fill, asks-fill}
 use Rattle.lists.proofs.Listing as Z
 use Rattle.lists.proofs.Listing.Laws as Z′

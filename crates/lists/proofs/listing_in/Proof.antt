@@ -1,6 +1,6 @@
 -- Its one test. Assumes nothing.
 use borrow.Author.Needs.{needs}
-use Rattle.lists.specs.ListingTests.{in-10, in-done}
+use Rattle.lists.proofs.ListingTests.{in-10, in-done}
 use Rattle.lists.proofs.listing_in.Statement.{statement}
 use Rattle.lists.proofs.listing_in.Tie as tie
 

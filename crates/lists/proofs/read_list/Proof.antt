@@ -45,7 +45,8 @@ use Rattle.card.proofs.Answer as N
 use Rattle.card.proofs.Answer.Laws as N′
 use Rattle.lists.specs.declared.Listing.{Listing}
 use Rattle.lists.specs.Listings.{cardListing}
-use Rattle.lists.specs.ListingLaws.{HasRoom, read-ready, Fills, read-fills}
+use Rattle.lists.specs.Inner.{HasRoom}
+use Rattle.lists.proofs.ListingLaws.{read-ready, Fills, read-fills}
 use Rattle.lists.proofs.Filling.{Lasts, Filled, told, Fill, imgVal, tableVal, Img, to-fill, asks-fill}
 use Rattle.lists.proofs.Listing as Z
 use Rattle.lists.proofs.Listing.Laws as Z′

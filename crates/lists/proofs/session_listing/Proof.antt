@@ -1,8 +1,8 @@
 -- Its tests in their order; a fit gives the layout. Assumes nothing.
 use borrow.Author.Needs.{needs}
-use Rattle.store.specs.ViewLaws.{fit-laid}
-use Rattle.store.specs.CallLaws.{passed, failed}
-use Rattle.lists.specs.ListingTests.{session-4, session-2, session-go}
+use Rattle.store.proofs.ViewLaws.{fit-laid}
+use Rattle.store.proofs.CallLaws.{passed, failed}
+use Rattle.lists.proofs.ListingTests.{session-4, session-2, session-go}
 use Rattle.lists.proofs.session_listing.Statement.{statement}
 use Rattle.lists.proofs.session_listing.Tie as tie
 

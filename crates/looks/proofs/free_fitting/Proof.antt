@@ -2,9 +2,9 @@
 use borrow.Author.Needs.{needs}
 use mathlib.Core.Path.{ap, _∙_}
 use Rattle.figures.specs.declared.Figures.{Figures}
-use Rattle.store.specs.Fitting.{open-fits}
-use Rattle.store.specs.ViewLaws.{fit-laid, fit-pair}
-use Rattle.store.specs.LookLaws.{free-done}
+use Rattle.store.proofs.Fitting.{open-fits}
+use Rattle.store.proofs.ViewLaws.{fit-laid, fit-pair}
+use Rattle.store.proofs.LookLaws.{free-done}
 use Rattle.store.specs.Look.{free}
 use Rattle.looks.proofs.free_fitting.Statement.{statement}
 use Rattle.looks.proofs.free_fitting.Tie as tie

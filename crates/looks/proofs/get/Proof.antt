@@ -1,7 +1,7 @@
 -- The one test, then the inner call. Assumes nothing.
 use borrow.Author.Needs.{needs}
-use Rattle.store.specs.Fitting.{fit-of, met-unfit}
-use Rattle.store.specs.LookLaws.{get-2}
+use Rattle.store.proofs.Fitting.{fit-of, met-unfit}
+use Rattle.store.proofs.LookLaws.{get-2}
 use Rattle.looks.proofs.get.Statement.{statement}
 use Rattle.looks.proofs.get.Tie as tie
 

@@ -1,9 +1,9 @@
 -- 4, then the tests of get_in; the fit that it requires gives the layout and the runs. Assumes nothing.
 use borrow.Author.Needs.{needs}
-use Rattle.session.specs.FitLaws.{fit-inv}
-use Rattle.store.specs.Fitting.{open-fits}
-use Rattle.store.specs.ViewLaws.{fit-laid}
-use Rattle.store.specs.LookLaws.{fit-runs, get-closed, get-done}
+use Rattle.session.proofs.FitLaws.{fit-inv}
+use Rattle.store.proofs.Fitting.{open-fits}
+use Rattle.store.proofs.ViewLaws.{fit-laid}
+use Rattle.store.proofs.LookLaws.{fit-runs, get-closed, get-done}
 use Rattle.looks.proofs.get_fitting.Statement.{statement}
 use Rattle.looks.proofs.get_fitting.Tie as tie
 

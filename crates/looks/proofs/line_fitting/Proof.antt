@@ -1,9 +1,9 @@
 -- 4, then the line; the fit that it requires gives the layout. Assumes nothing.
 use borrow.Author.Needs.{needs}
 use mathlib.Core.Path.{_∙_}
-use Rattle.store.specs.Fitting.{open-fits}
-use Rattle.store.specs.ViewLaws.{fit-laid}
-use Rattle.store.specs.LookLaws.{line-done}
+use Rattle.store.proofs.Fitting.{open-fits}
+use Rattle.store.proofs.ViewLaws.{fit-laid}
+use Rattle.store.proofs.LookLaws.{line-done}
 use Rattle.store.specs.Look.{line}
 use Rattle.looks.proofs.line_fitting.Statement.{statement}
 use Rattle.looks.proofs.line_fitting.Tie as tie

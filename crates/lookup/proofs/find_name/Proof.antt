@@ -8,9 +8,9 @@ use denote.Ref.{now}
 use lib.ListN.{drop}
 use Rattle.counts.specs.Stamps.{tableIn}
 use Rattle.directory.specs.Directory.{entriesOf, named}
-use Rattle.directory.specs.DirectoryLaws.{entries-lt, entries-le, entry-test}
+use Rattle.directory.proofs.DirectoryLaws.{entries-lt, entries-le, entry-test}
 use Rattle.sectors.specs.Sectors.{sec}
-use Rattle.words.specs.EveryLaws.{first-stop, first-go, first-end}
+use Rattle.words.proofs.EveryLaws.{first-stop, first-go, first-end}
 use Rattle.words.specs.Lists.{firstAt}
 use Rattle.lookup.proofs.find_name.Statement.{statement}
 use Rattle.lookup.proofs.find_name.Tie as tie

@@ -3,9 +3,9 @@ use mathlib.Core.Path.{_∙_}
 use native.Mathlib.Omega.{arith}
 use borrow.Author.Needs.{needs}
 use Rattle.words.specs.Lists.{setPart}
-use Rattle.words.specs.SpliceLaws.{part-back}
+use Rattle.words.proofs.SpliceLaws.{part-back}
 use Rattle.sectors.specs.Sectors.{setSec}
-use Rattle.sectors.specs.SectorLaws.{sec-part, sec-length}
+use Rattle.sectors.proofs.SectorLaws.{sec-part, sec-length}
 use Rattle.mounting.proofs.land_in.Statement.{statement}
 use Rattle.mounting.proofs.land_in.Tie as tie
 

@@ -1,7 +1,7 @@
 -- The one write, or nothing. Assumes nothing.
 use native.Mathlib.Omega.{arith}
 use denote.Ref.{now}
-use Rattle.store.specs.WriteLaws.{count-here, mount-write, mount-still}
+use Rattle.store.proofs.WriteLaws.{count-here, mount-write, mount-still}
 use borrow.Author.Needs.{needs}
 use Rattle.mounting.proofs.mount_step.Statement.{statement}
 use Rattle.mounting.proofs.mount_step.Tie as tie

@@ -4,9 +4,9 @@ use Prim.Native.Nat.{_≤_, _-_}
 use native.Mathlib.Omega.{arith}
 use lib.ListN.{length, take}
 use Rattle.sectors.specs.Sectors.{applySteps}
-use Rattle.sectors.specs.SectorLaws.{applySteps-length, steps-turn}
+use Rattle.sectors.proofs.SectorLaws.{applySteps-length, steps-turn}
 use Rattle.store.specs.Steps.{mountSteps}
-use Rattle.store.specs.WriteLaws.{mount-same, mount-begins}
+use Rattle.store.proofs.WriteLaws.{mount-same, mount-begins}
 use Rattle.mounting.proofs.mount_steps.Statement.{statement}
 use Rattle.mounting.proofs.mount_steps.Tie as tie
 

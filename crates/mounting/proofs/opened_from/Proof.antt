@@ -2,7 +2,7 @@
 use native.Mathlib.Omega.{arith}
 use borrow.Author.Needs.{needs}
 use denote.Ref.{now}
-use Rattle.store.specs.WriteLaws.{opened-here, word-fits}
+use Rattle.store.proofs.WriteLaws.{opened-here, word-fits}
 use Rattle.mounting.proofs.opened_from.Statement.{statement}
 use Rattle.mounting.proofs.opened_from.Tie as tie
 

@@ -1,7 +1,7 @@
 -- A sector read, and a word put into it. Assumes nothing.
 use mathlib.Core.Path.{_∙_}
 use borrow.Author.Needs.{needs}
-use Rattle.sectors.specs.SectorLaws.{sec-part}
+use Rattle.sectors.proofs.SectorLaws.{sec-part}
 use Rattle.mounting.proofs.sector_with.Statement.{statement}
 use Rattle.mounting.proofs.sector_with.Tie as tie
 

@@ -5,7 +5,7 @@ use native.Mathlib.Omega.{arith}
 use borrow.Author.Needs.{needs}
 use lib.ListN.{length, drop}
 use Rattle.entries.specs.Entries.{goodByte}
-use Rattle.words.specs.EveryLaws.{every-stop, every-go, every-end}
+use Rattle.words.proofs.EveryLaws.{every-stop, every-go, every-end}
 use Rattle.words.specs.Lists.{every}
 use Rattle.names.proofs.good_bytes.Statement.{statement}
 use Rattle.names.proofs.good_bytes.Tie as tie

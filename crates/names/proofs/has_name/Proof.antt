@@ -1,6 +1,6 @@
 -- `entries::has_name` meets its contract: the name's part of the entry. Assumes nothing.
 use borrow.Author.Needs.{needs}
-use Rattle.entries.specs.EntryLaws.{name-here}
+use Rattle.entries.proofs.EntryLaws.{name-here}
 use Rattle.names.proofs.has_name.Statement.{statement}
 use Rattle.names.proofs.has_name.Tie as tie
 

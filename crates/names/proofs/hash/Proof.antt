@@ -3,7 +3,8 @@ use mathlib.Core.Path.{_≡_, refl, sym, _∙_}
 use Prim.Native.Nat.{_-_, _≤_}
 use lib.ListN.{length, drop}
 use borrow.Author.Needs.{needs}
-use Rattle.names.specs.NameHash.{hashFrom, hashOf, hash-next, hash-end}
+use Rattle.names.specs.Inner.{hashFrom, hashOf}
+use Rattle.names.proofs.NameHash.{hash-next, hash-end}
 use Rattle.names.proofs.hash.Statement.{statement}
 use Rattle.names.proofs.hash.Tie as tie
 

@@ -1,6 +1,6 @@
 -- The name's part of the entry. Assumes nothing.
 use borrow.Author.Needs.{needs}
-use Rattle.names.specs.NameHash.{hash-here}
+use Rattle.names.proofs.NameHash.{hash-here}
 use Rattle.names.proofs.hash_at.Statement.{statement}
 use Rattle.names.proofs.hash_at.Tie as tie
 

@@ -1,6 +1,6 @@
 -- Straight. Assumes nothing.
 use borrow.Author.Needs.{needs}
-use Rattle.names.specs.NameHash.{hashStep}
+use Rattle.names.specs.Inner.{hashStep}
 use Rattle.names.proofs.hash_step.Statement.{statement}
 use Rattle.names.proofs.hash_step.Tie as tie
 

@@ -1,7 +1,7 @@
 -- `entries::name_ok` meets its contract: too short, too long, or tested byte by byte. Assumes nothing.
 use native.Mathlib.Omega.{arith}
 use borrow.Author.Needs.{needs}
-use Rattle.entries.specs.EntryLaws.{name-low, name-high, name-mid}
+use Rattle.entries.proofs.EntryLaws.{name-low, name-high, name-mid}
 use Rattle.names.proofs.name_ok.Statement.{statement}
 use Rattle.names.proofs.name_ok.Tie as tie
 

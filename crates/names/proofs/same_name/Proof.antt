@@ -1,6 +1,6 @@
 -- `entries::same_name` meets its contract: the names' parts of the entries. Assumes nothing.
 use borrow.Author.Needs.{needs}
-use Rattle.entries.specs.EntryLaws.{same-here}
+use Rattle.entries.proofs.EntryLaws.{same-here}
 use Rattle.names.proofs.same_name.Statement.{statement}
 use Rattle.names.proofs.same_name.Tie as tie
 

@@ -2,7 +2,7 @@
 use native.Mathlib.Omega.{arith}
 use borrow.Author.Needs.{needs}
 use denote.Ref.{now}
-use Rattle.apages.specs.OnesLaws.{set-clear}
+use Rattle.apages.proofs.OnesLaws.{set-clear}
 use Rattle.ones.proofs.count_clear.Statement.{statement}
 use Rattle.ones.proofs.count_clear.Tie as tie
 

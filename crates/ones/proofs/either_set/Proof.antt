@@ -6,9 +6,10 @@ use borrow.Author.Needs.{needs}
 use denote.Ref.{now}
 use lib.ListN.{length, getD}
 use Rattle.sums.specs.Sums.{total}
-use Rattle.sums.specs.SumLaws.{total-none}
+use Rattle.sums.proofs.SumLaws.{total-none}
 use Rattle.apages.specs.Bits.{bitAt}
-use Rattle.apages.specs.Either.{either, either-length, either-more}
+use Rattle.apages.specs.Inner.{either}
+use Rattle.apages.proofs.Either.{either-length, either-more}
 use Rattle.apages.specs.Ones.{setBits}
 use Rattle.ones.proofs.either_set.Statement.{statement}
 use Rattle.ones.proofs.either_set.Tie as tie

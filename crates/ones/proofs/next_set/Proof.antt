@@ -7,8 +7,8 @@ use borrow.Author.Tests.{eqb-true, leb-true}
 use denote.Ref.{now}
 use lib.Dec.{eqb, leb}
 use lib.ListN.{getD}
-use Rattle.words.specs.BoolLaws.{both}
-use Rattle.apages.specs.OnesLaws.{word-set, full-set, bit-set}
+use Rattle.words.proofs.BoolLaws.{both}
+use Rattle.apages.proofs.OnesLaws.{word-set, full-set, bit-set}
 use Rattle.ones.proofs.next_set.Statement.{statement}
 use Rattle.ones.proofs.next_set.Tie as tie
 

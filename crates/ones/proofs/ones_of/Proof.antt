@@ -1,7 +1,7 @@
 -- What the machine counts are the set bits. Assumes nothing.
 use native.Mathlib.Omega.{arith}
 use lib.Count.{ones-le}
-use Rattle.apages.specs.OnesLaws.{ones-word}
+use Rattle.apages.proofs.OnesLaws.{ones-word}
 use Rattle.ones.proofs.ones_of.Statement.{statement}
 use Rattle.ones.proofs.ones_of.Tie as tie
 

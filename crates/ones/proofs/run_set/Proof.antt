@@ -4,7 +4,7 @@ use Prim.Native.Nat.{_+_, _-_, _≤_}
 use native.Mathlib.Omega.{arith}
 use borrow.Author.Needs.{needs}
 use Rattle.apages.specs.Ones.{allSet}
-use Rattle.apages.specs.OnesLaws.{all-start, all-go, all-stop, all-end}
+use Rattle.apages.proofs.OnesLaws.{all-start, all-go, all-stop, all-end}
 use Rattle.ones.proofs.run_set.Statement.{statement}
 use Rattle.ones.proofs.run_set.Tie as tie
 

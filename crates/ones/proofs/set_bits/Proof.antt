@@ -6,10 +6,10 @@ use borrow.Author.Needs.{needs}
 use denote.Ref.{now}
 use lib.ListN.{length}
 use Rattle.sums.specs.Sums.{total}
-use Rattle.sums.specs.SumLaws.{total-none}
+use Rattle.sums.proofs.SumLaws.{total-none}
 use Rattle.apages.specs.Bits.{bitAt}
 use Rattle.apages.specs.Ones.{onesOf, setBits}
-use Rattle.apages.specs.OnesLaws.{ones-more}
+use Rattle.apages.proofs.OnesLaws.{ones-more}
 use Rattle.ones.proofs.set_bits.Statement.{statement}
 use Rattle.ones.proofs.set_bits.Tie as tie
 

@@ -1,6 +1,6 @@
 -- The fields, one by one. Assumes nothing.
 use borrow.Author.Needs.{needs}
-use Rattle.card.specs.ReadLaws.{noLined}
+use Rattle.card.specs.Inner.{noLined}
 use Rattle.reading.proofs.no_lined.Statement.{statement}
 use Rattle.reading.proofs.no_lined.Tie as tie
 

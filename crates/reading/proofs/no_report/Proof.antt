@@ -1,6 +1,6 @@
 -- The definition, unfolded. Assumes nothing.
 use mathlib.Core.Path.{refl}
-use Rattle.card.specs.ReadLaws.{noReport}
+use Rattle.card.specs.Inner.{noReport}
 use Rattle.reading.proofs.no_report.Statement.{statement}
 use Rattle.reading.proofs.no_report.Tie as tie
 

@@ -2,7 +2,7 @@
 use mathlib.Core.Path.{sym, _∙_}
 use borrow.Author.Tests.{not-false}
 use borrow.Author.Needs.{needs}
-use Rattle.card.specs.ReadLaws.{shape-get, sound-get}
+use Rattle.card.proofs.ReadLaws.{shape-get, sound-get}
 use Rattle.reading.proofs.read_get.Statement.{statement}
 use Rattle.reading.proofs.read_get.Tie as tie
 

@@ -1,7 +1,7 @@
 -- Both tests passed, so get is over the view that takes the table as it is. Assumes nothing.
 use borrow.Author.Needs.{needs}
-use Rattle.card.specs.SoundTests.{shape-length, shape-laid, shape-limits, shape-room, sound-runs}
-use Rattle.card.specs.ReadLaws.{get-done}
+use Rattle.card.proofs.SoundTests.{shape-length, shape-laid, shape-limits, shape-room, sound-runs}
+use Rattle.card.proofs.ReadLaws.{get-done}
 use Rattle.reading.proofs.read_get_in.Statement.{statement}
 use Rattle.reading.proofs.read_get_in.Tie as tie
 

@@ -1,7 +1,7 @@
 -- Both tests passed, so the report is of the files and the page shown. Assumes nothing.
 use native.Mathlib.Omega.{arith}
-use Rattle.card.specs.SoundTests.{shape-length, shape-laid, shape-limits, sound-pair}
-use Rattle.card.specs.ReadLaws.{read-done}
+use Rattle.card.proofs.SoundTests.{shape-length, shape-laid, shape-limits, sound-pair}
+use Rattle.card.proofs.ReadLaws.{read-done}
 use Rattle.reading.proofs.read_in.Statement.{statement}
 use Rattle.reading.proofs.read_in.Tie as tie
 

@@ -1,7 +1,7 @@
 -- Both tests passed, so the line is of the files shown. Assumes nothing.
 use borrow.Author.Needs.{needs}
-use Rattle.card.specs.SoundTests.{shape-length, shape-laid, shape-limits}
-use Rattle.card.specs.ReadLaws.{line-done}
+use Rattle.card.proofs.SoundTests.{shape-length, shape-laid, shape-limits}
+use Rattle.card.proofs.ReadLaws.{line-done}
 use Rattle.reading.proofs.read_line_in.Statement.{statement}
 use Rattle.reading.proofs.read_line_in.Tie as tie
 

@@ -1,6 +1,6 @@
 -- `report::report` is safe and ends: a card that is read with 0 is sound, which its lines ask. Assumes nothing.
 use native.Mathlib.Omega.{arith}
-use Rattle.report.specs.ReadZero.{read-zero}
+use Rattle.report.proofs.ReadZero.{read-zero}
 use borrow.Author.Needs.{needs}
 use Rattle.report.proofs.report.Statement.{statement}
 use Rattle.report.proofs.report.Tie as tie

@@ -3,10 +3,10 @@ use denote.Ref.{now}
 use borrow.Author.Needs.{needs}
 use Rattle.counts.specs.Stamps.{tableIn}
 use Rattle.sectors.specs.Sectors.{sec}
-use Rattle.directory.specs.ApartLaws.{gone-apart}
+use Rattle.directory.proofs.ApartLaws.{gone-apart}
 use Rattle.directory.specs.Directory.{entriesOf, gone}
-use Rattle.directory.specs.DirectoryLaws.{entry-test, entry-part}
-use Rattle.roll.specs.Marks.{known-gone, known-next, new-apart, marking-of}
+use Rattle.directory.proofs.DirectoryLaws.{entry-test, entry-part}
+use Rattle.roll.proofs.Marks.{known-gone, known-next, new-apart, marking-of}
 use Rattle.roll.proofs.alone.Statement.{statement}
 use Rattle.roll.proofs.alone.Tie as tie
 

@@ -1,6 +1,6 @@
 -- `directory::apart` meets its contract: by the names, then by what is shown. Assumes nothing.
 use borrow.Author.Needs.{needs}
-use Rattle.directory.specs.ApartLaws.{apart-unlike, apart-like}
+use Rattle.directory.proofs.ApartLaws.{apart-unlike, apart-like}
 use Rattle.roll.proofs.apart.Statement.{statement}
 use Rattle.roll.proofs.apart.Tie as tie
 

@@ -8,9 +8,9 @@ use denote.Ref.{now}
 use lib.ListN.{getD, drop}
 use Rattle.counts.specs.Stamps.{tableIn}
 use Rattle.directory.specs.Directory.{entriesOf, apart}
-use Rattle.directory.specs.DirectoryLaws.{entries-lt, entries-le, entry-test2}
+use Rattle.directory.proofs.DirectoryLaws.{entries-lt, entries-le, entry-test2}
 use Rattle.sectors.specs.Sectors.{sec}
-use Rattle.words.specs.EveryLaws.{every-stop, every-go, every-end}
+use Rattle.words.proofs.EveryLaws.{every-stop, every-go, every-end}
 use Rattle.words.specs.Lists.{every}
 use Rattle.roll.proofs.apart_from.Statement.{statement}
 use Rattle.roll.proofs.apart_from.Tie as tie

@@ -8,10 +8,10 @@ use denote.Ref.{now}
 use lib.ListN.{drop}
 use Rattle.counts.specs.Stamps.{tableIn}
 use Rattle.directory.specs.Directory.{entriesOf}
-use Rattle.directory.specs.DirectoryLaws.{entries-lt, entries-le, entry-test}
+use Rattle.directory.proofs.DirectoryLaws.{entries-lt, entries-le, entry-test}
 use Rattle.entries.specs.Entries.{entryOk}
 use Rattle.sectors.specs.Sectors.{sec}
-use Rattle.words.specs.EveryLaws.{every-stop, every-go, every-end}
+use Rattle.words.proofs.EveryLaws.{every-stop, every-go, every-end}
 use Rattle.words.specs.Lists.{every}
 use Rattle.roll.proofs.entries_ok.Statement.{statement}
 use Rattle.roll.proofs.entries_ok.Tie as tie

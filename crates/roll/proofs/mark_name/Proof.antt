@@ -4,7 +4,7 @@ use Prim.Native.Nat.{ℕ, _/_, _%_}
 use denote.Ref.{now}
 use borrow.Author.Needs.{needs}
 use Rattle.entries.specs.Entries.{nameOf}
-use Rattle.roll.specs.Marks.{marking}
+use Rattle.roll.proofs.Marks.{marking}
 use Rattle.roll.proofs.mark_name.Statement.{statement}
 use Rattle.roll.proofs.mark_name.Tie as tie
 

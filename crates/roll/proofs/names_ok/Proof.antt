@@ -8,12 +8,13 @@ use denote.Ref.{now}
 use lib.ListN.{length, drop}
 use borrow.Author.Needs.{needs}
 use Rattle.words.specs.Lists.{pairwise}
-use Rattle.words.specs.EveryLaws.{pair-end}
+use Rattle.words.proofs.EveryLaws.{pair-end}
 use Rattle.counts.specs.Stamps.{tableIn}
 use Rattle.sectors.specs.Sectors.{sec}
 use Rattle.directory.specs.Directory.{entriesOf, apart}
-use Rattle.directory.specs.DirectoryLaws.{entries-lt, entries-le}
-use Rattle.roll.specs.Marks.{Known, known-end, known-at, down-go, down-stop}
+use Rattle.directory.proofs.DirectoryLaws.{entries-lt, entries-le}
+use Rattle.roll.specs.Inner.{Known}
+use Rattle.roll.proofs.Marks.{known-end, known-at, down-go, down-stop}
 use Rattle.roll.proofs.names_ok.Statement.{statement}
 use Rattle.roll.proofs.names_ok.Tie as tie
 

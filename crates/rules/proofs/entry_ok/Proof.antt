@@ -1,7 +1,7 @@
 -- `entries::entry_ok` meets its contract: the answers to its parts. Assumes nothing.
 use borrow.Author.Needs.{needs}
 use Rattle.entries.specs.Entries.{shown}
-use Rattle.entries.specs.EntryLaws.{entry-here}
+use Rattle.entries.proofs.EntryLaws.{entry-here}
 use Rattle.rules.proofs.entry_ok.Statement.{statement}
 use Rattle.rules.proofs.entry_ok.Tie as tie
 

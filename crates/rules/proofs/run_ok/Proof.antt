@@ -2,7 +2,7 @@
 use borrow.Author.Needs.{needs}
 use borrow.Author.Tests.{eq-eqb, ne-eqb}
 use Rattle.entries.specs.Entries.{runOk}
-use Rattle.entries.specs.PassLaws.{pieces-text}
+use Rattle.entries.proofs.PassLaws.{pieces-text}
 use Rattle.rules.proofs.run_ok.Statement.{statement}
 use Rattle.rules.proofs.run_ok.Tie as tie
 

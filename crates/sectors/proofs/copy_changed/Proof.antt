@@ -3,8 +3,8 @@ use mathlib.Core.Path.{_≡_, sym, ap, _∙_}
 use native.Mathlib.Omega.{arith}
 use Rattle.words.specs.Lists.{eqList}
 use Rattle.sectors.specs.Sectors.{sec, unlike, differs}
-use Rattle.sectors.specs.SectorLaws.{sec-part}
-use Rattle.sectors.specs.Fewer.{write-own}
+use Rattle.sectors.proofs.SectorLaws.{sec-part}
+use Rattle.sectors.proofs.Fewer.{write-own}
 use denote.Ref.{now}
 use borrow.Author.Needs.{needs}
 use Rattle.sectors.proofs.copy_changed.Statement.{statement}

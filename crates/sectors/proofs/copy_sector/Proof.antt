@@ -1,6 +1,6 @@
 -- `sectors::copy_sector` meets its contract: the part that is read is sector i. Assumes nothing.
 use mathlib.Core.Path.{_∙_}
-use Rattle.sectors.specs.SectorLaws.{sec-part}
+use Rattle.sectors.proofs.SectorLaws.{sec-part}
 use borrow.Author.Needs.{needs}
 use Rattle.sectors.proofs.copy_sector.Statement.{statement}
 use Rattle.sectors.proofs.copy_sector.Tie as tie

@@ -1,6 +1,6 @@
 -- `session::present_view` meets its contract: by whether the session is worn. Assumes nothing.
 use borrow.Author.Needs.{needs}
-use Rattle.session.specs.FitTests.{view-worn, view-open}
+use Rattle.session.proofs.FitTests.{view-worn, view-open}
 use Rattle.session.proofs.present_view.Statement.{statement}
 use Rattle.session.proofs.present_view.Tie as tie
 

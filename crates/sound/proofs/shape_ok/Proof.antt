@@ -1,6 +1,6 @@
 -- Too short, a geometry outside the limits, or the length decides. Assumes nothing.
 use borrow.Author.Needs.{needs}
-use Rattle.card.specs.SoundTests.{shape-short, shape-geo, shape-size}
+use Rattle.card.proofs.SoundTests.{shape-short, shape-geo, shape-size}
 use Rattle.sound.proofs.shape_ok.Statement.{statement}
 use Rattle.sound.proofs.shape_ok.Tie as tie
 

@@ -1,5 +1,5 @@
 -- The geometry is the one that the card stores. Assumes nothing.
-use Rattle.card.specs.SoundTests.{shape-length, shape-laid, sound-of}
+use Rattle.card.proofs.SoundTests.{shape-length, shape-laid, sound-of}
 use Rattle.sound.proofs.sound.Statement.{statement}
 use Rattle.sound.proofs.sound.Tie as tie
 

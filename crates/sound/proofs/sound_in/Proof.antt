@@ -1,6 +1,6 @@
 -- The clauses of the definition, one by one. Assumes nothing.
 use borrow.Author.Needs.{needs}
-use Rattle.card.specs.SoundTests.{sound-here}
+use Rattle.card.proofs.SoundTests.{sound-here}
 use Rattle.sound.proofs.sound_in.Statement.{statement}
 use Rattle.sound.proofs.sound_in.Tie as tie
 

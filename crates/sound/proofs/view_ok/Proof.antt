@@ -1,6 +1,6 @@
 -- Index, entries, page: the first test that fails decides. Assumes nothing.
 use borrow.Author.Needs.{needs}
-use Rattle.card.specs.ViewLaws.{view-index, view-pair, view-entries, view-page, view-runs}
+use Rattle.card.proofs.ViewLaws.{view-index, view-pair, view-entries, view-page, view-runs}
 use Rattle.sound.proofs.view_ok.Statement.{statement}
 use Rattle.sound.proofs.view_ok.Tie as tie
 

@@ -2,7 +2,7 @@
 use mathlib.Core.Path.{sym, _∙_}
 use native.Mathlib.Omega.{arith}
 use borrow.Author.Needs.{needs}
-use Rattle.counts.specs.TableLaws.{view-past, view-own, view-other}
+use Rattle.counts.proofs.TableLaws.{view-past, view-own, view-other}
 use Rattle.stamps.proofs.view_word.Statement.{statement}
 use Rattle.stamps.proofs.view_word.Tie as tie
 

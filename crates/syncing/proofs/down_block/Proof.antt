@@ -1,6 +1,6 @@
 -- Sector 0 as the working image has it: the table word lies elsewhere. Assumes nothing.
 use mathlib.Core.Path.{_∙_}
-use Rattle.store.specs.WriteLaws.{count-sector, word-first}
+use Rattle.store.proofs.WriteLaws.{count-sector, word-first}
 use borrow.Author.Needs.{needs}
 use Rattle.syncing.proofs.down_block.Statement.{statement}
 use Rattle.syncing.proofs.down_block.Tie as tie

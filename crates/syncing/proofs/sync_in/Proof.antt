@@ -2,7 +2,7 @@
 use Prim.Native.Nat.{_+_, _-_}
 use native.Mathlib.Omega.{arith}
 use Rattle.store.specs.Steps.{syncWork}
-use Rattle.store.specs.SyncCounts.{sync-all}
+use Rattle.store.proofs.SyncCounts.{sync-all}
 use borrow.Author.Needs.{needs}
 use Rattle.syncing.proofs.sync_in.Statement.{statement}
 use Rattle.syncing.proofs.sync_in.Tie as tie

@@ -2,8 +2,8 @@
 use mathlib.Core.Path.{_∙_}
 use native.Mathlib.Omega.{arith}
 use Rattle.store.specs.Steps.{tableSector}
-use Rattle.store.specs.SyncLaws.{sync-first, sync-past, sync-rest, sync-table}
-use Rattle.store.specs.SyncCounts.{count-first, count-past, count-rest, count-table}
+use Rattle.store.proofs.SyncLaws.{sync-first, sync-past, sync-rest, sync-table}
+use Rattle.store.proofs.SyncCounts.{count-first, count-past, count-rest, count-table}
 use borrow.Author.Needs.{needs}
 use Rattle.syncing.proofs.sync_step.Statement.{statement}
 use Rattle.syncing.proofs.sync_step.Tie as tie

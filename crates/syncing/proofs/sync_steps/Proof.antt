@@ -5,11 +5,11 @@ use Prim.Native.Nat.{_≤_, _-_}
 use native.Mathlib.Omega.{arith}
 use lib.ListN.{length, take}
 use Rattle.sectors.specs.Sectors.{applySteps}
-use Rattle.sectors.specs.SectorLaws.{applySteps-length, steps-turn}
+use Rattle.sectors.proofs.SectorLaws.{applySteps-length, steps-turn}
 use Rattle.store.specs.Steps.{allSteps, writtenAt}
-use Rattle.store.specs.WriteLaws.{can-still}
-use Rattle.store.specs.SyncFewer.{sync-at}
-use Rattle.store.specs.SyncCounts.{written-none, written-turn}
+use Rattle.store.proofs.WriteLaws.{can-still}
+use Rattle.store.proofs.SyncFewer.{sync-at}
+use Rattle.store.proofs.SyncCounts.{written-none, written-turn}
 use Rattle.syncing.proofs.sync_steps.Statement.{statement}
 use Rattle.syncing.proofs.sync_steps.Tie as tie
 

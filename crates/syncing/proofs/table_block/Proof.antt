@@ -1,6 +1,6 @@
 -- The sector that holds word c. Assumes nothing.
 use mathlib.Core.Path.{sym, _∙_}
-use Rattle.store.specs.WriteLaws.{word-sector}
+use Rattle.store.proofs.WriteLaws.{word-sector}
 use borrow.Author.Needs.{needs}
 use Rattle.syncing.proofs.table_block.Statement.{statement}
 use Rattle.syncing.proofs.table_block.Tie as tie

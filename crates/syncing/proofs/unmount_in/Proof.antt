@@ -1,7 +1,7 @@
 -- All places, and the working image. Assumes nothing.
 use Prim.Native.Nat.{_+_, _-_}
 use native.Mathlib.Omega.{arith}
-use Rattle.store.specs.SyncCounts.{down-all}
+use Rattle.store.proofs.SyncCounts.{down-all}
 use borrow.Author.Needs.{needs}
 use Rattle.syncing.proofs.unmount_in.Statement.{statement}
 use Rattle.syncing.proofs.unmount_in.Tie as tie

@@ -4,8 +4,8 @@ use native.Mathlib.Omega.{arith}
 use denote.Ref.{now}
 use Rattle.sectors.specs.Sectors.{applySteps}
 use Rattle.store.specs.Steps.{downSteps}
-use Rattle.store.specs.SyncLaws.{unmount-worn, unmount-sync, unmount-past, unmount-top, unmount-down}
-use Rattle.store.specs.SyncCounts.{count-rest, counts-live, counts-worn}
+use Rattle.store.proofs.SyncLaws.{unmount-worn, unmount-sync, unmount-past, unmount-top, unmount-down}
+use Rattle.store.proofs.SyncCounts.{count-rest, counts-live, counts-worn}
 use borrow.Author.Needs.{needs}
 use Rattle.syncing.proofs.unmount_step.Statement.{statement}
 use Rattle.syncing.proofs.unmount_step.Tie as tie

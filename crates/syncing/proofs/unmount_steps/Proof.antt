@@ -4,11 +4,11 @@ use Prim.Native.Nat.{_≤_, _-_}
 use native.Mathlib.Omega.{arith}
 use lib.ListN.{length, take}
 use Rattle.sectors.specs.Sectors.{applySteps}
-use Rattle.sectors.specs.SectorLaws.{applySteps-length, steps-turn}
+use Rattle.sectors.proofs.SectorLaws.{applySteps-length, steps-turn}
 use Rattle.store.specs.Steps.{allDown, countedAt}
-use Rattle.store.specs.WriteLaws.{can-still}
-use Rattle.store.specs.SyncFewer.{down-at}
-use Rattle.store.specs.SyncCounts.{counted-none, counted-turn}
+use Rattle.store.proofs.WriteLaws.{can-still}
+use Rattle.store.proofs.SyncFewer.{down-at}
+use Rattle.store.proofs.SyncCounts.{counted-none, counted-turn}
 use Rattle.syncing.proofs.unmount_steps.Statement.{statement}
 use Rattle.syncing.proofs.unmount_steps.Tie as tie
 

@@ -7,12 +7,12 @@ use denote.Ref.{now}
 use lib.ListN.{drop}
 use borrow.Author.Needs.{needs}
 use Rattle.words.specs.Lists.{every}
-use Rattle.words.specs.EveryLaws.{seen-go}
+use Rattle.words.proofs.EveryLaws.{seen-go}
 use Rattle.sectors.specs.Sectors.{sec}
 use Rattle.counts.specs.Geometry.{tableOf}
 use Rattle.counts.specs.Stamps.{wordMax}
-use Rattle.counts.specs.TableLaws.{table-lt, table-le}
-use Rattle.table.specs.OneWalk.{walk-end}
+use Rattle.counts.proofs.TableLaws.{table-lt, table-le}
+use Rattle.table.proofs.OneWalk.{walk-end}
 use Rattle.table.proofs.table_max.Statement.{statement}
 use Rattle.table.proofs.table_max.Tie as tie
 

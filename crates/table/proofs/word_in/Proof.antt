@@ -1,7 +1,7 @@
 -- The word in the image. Assumes nothing.
 use mathlib.Core.Path.{sym, _∙_}
 use borrow.Author.Needs.{needs}
-use Rattle.counts.specs.TableLaws.{table-at}
+use Rattle.counts.proofs.TableLaws.{table-at}
 use Rattle.table.proofs.word_in.Statement.{statement}
 use Rattle.table.proofs.word_in.Tie as tie
 

@@ -7,10 +7,10 @@ use denote.Ref.{now}
 use lib.ListN.{drop}
 use borrow.Author.Needs.{needs}
 use Rattle.words.specs.Lists.{every, isZero}
-use Rattle.words.specs.EveryLaws.{every-end, seen-go, seen-end}
+use Rattle.words.proofs.EveryLaws.{every-end, seen-go, seen-end}
 use Rattle.sectors.specs.Sectors.{sec}
 use Rattle.counts.specs.Geometry.{tableOf}
-use Rattle.counts.specs.TableLaws.{table-lt, table-le}
+use Rattle.counts.proofs.TableLaws.{table-lt, table-le}
 use Rattle.table.proofs.zero_past.Statement.{statement}
 use Rattle.table.proofs.zero_past.Tie as tie
 

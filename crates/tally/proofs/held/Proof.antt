@@ -2,8 +2,8 @@
 use mathlib.Core.Path.{refl}
 use native.Mathlib.Omega.{arith}
 use Rattle.apages.specs.Ones.{allSet}
-use Rattle.card.specs.ViewLaws.{page-room}
-use Rattle.card.specs.TallyPages.{held-none, held-lent}
+use Rattle.card.proofs.ViewLaws.{page-room}
+use Rattle.card.proofs.TallyPages.{held-none, held-lent}
 use borrow.Author.Needs.{needs}
 use Rattle.tally.proofs.held.Statement.{statement}
 use Rattle.tally.proofs.held.Tie as tie

@@ -6,7 +6,8 @@ use Rattle.sectors.specs.Sectors.{sec}
 use Rattle.counts.specs.Stamps.{tableIn}
 use Rattle.directory.specs.Directory.{entriesOf}
 use Rattle.card.specs.Files.{filesOf}
-use Rattle.tally.specs.Turns.{heldBelow, held-end, held-next}
+use Rattle.tally.specs.Inner.{heldBelow}
+use Rattle.tally.proofs.Turns.{held-end, held-next}
 use Rattle.tally.proofs.in_turn.Statement.{statement}
 use Rattle.tally.proofs.in_turn.Tie as tie
 

@@ -1,8 +1,8 @@
 -- The tests of all pages say what the rule says. Assumes nothing.
 use native.Mathlib.Omega.{arith}
 use denote.Ref.{now}
-use Rattle.counts.specs.TableLaws.{pages-cover, dir-is}
-use Rattle.card.specs.TallyPages.{clear-fits, tally-pages, last-page}
+use Rattle.counts.proofs.TableLaws.{pages-cover, dir-is}
+use Rattle.card.proofs.TallyPages.{clear-fits, tally-pages, last-page}
 use borrow.Author.Needs.{needs}
 use Rattle.tally.proofs.pages_ok.Statement.{statement}
 use Rattle.tally.proofs.pages_ok.Tie as tie

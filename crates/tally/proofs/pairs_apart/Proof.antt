@@ -9,14 +9,14 @@ use borrow.Author.Needs.{needs}
 use denote.Ref.{now}
 use lib.ListN.{drop}
 use Rattle.words.specs.Lists.{pairwise}
-use Rattle.words.specs.EveryLaws.{pair-end}
+use Rattle.words.proofs.EveryLaws.{pair-end}
 use Rattle.sectors.specs.Sectors.{sec}
 use Rattle.counts.specs.Stamps.{tableIn}
 use Rattle.directory.specs.Directory.{entriesOf}
-use Rattle.directory.specs.DirectoryLaws.{entries-lt, entries-le}
+use Rattle.directory.proofs.DirectoryLaws.{entries-lt, entries-le}
 use Rattle.card.specs.Files.{runAt}
 use Rattle.card.specs.Tally.{partedIn}
-use Rattle.card.specs.TallyTests.{Rising, run-below, empty-row, empty-rising, row-stop, row-go, row-rising}
+use Rattle.card.proofs.TallyTests.{Rising, run-below, empty-row, empty-rising, row-stop, row-go, row-rising}
 use Rattle.tally.proofs.pairs_apart.Statement.{statement}
 use Rattle.tally.proofs.pairs_apart.Tie as tie
 

@@ -9,14 +9,14 @@ use denote.Ref.{now}
 use lib.Dec.{leb}
 use lib.ListN.{drop, getD}
 use Rattle.words.specs.Lists.{every}
-use Rattle.words.specs.EveryLaws.{seen-go, seen-end}
+use Rattle.words.proofs.EveryLaws.{seen-go, seen-end}
 use Rattle.sectors.specs.Sectors.{sec}
 use Rattle.counts.specs.Stamps.{tableIn}
 use Rattle.directory.specs.Directory.{entriesOf}
-use Rattle.directory.specs.DirectoryLaws.{entries-lt, entries-le}
+use Rattle.directory.proofs.DirectoryLaws.{entries-lt, entries-le}
 use Rattle.card.specs.Files.{runAt}
 use Rattle.card.specs.Tally.{partedFrom}
-use Rattle.card.specs.TallyTests.{run-below, parted-here}
+use Rattle.card.proofs.TallyTests.{run-below, parted-here}
 use Rattle.tally.proofs.parted_from.Statement.{statement}
 use Rattle.tally.proofs.parted_from.Tie as tie
 

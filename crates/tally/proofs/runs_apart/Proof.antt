@@ -1,6 +1,6 @@
 -- Runs one after another with all sectors of the files do not meet. Assumes nothing.
 use borrow.Author.Needs.{needs}
-use Rattle.tally.specs.Turns.{turns-apart}
+use Rattle.tally.proofs.Turns.{turns-apart}
 use Rattle.tally.proofs.runs_apart.Statement.{statement}
 use Rattle.tally.proofs.runs_apart.Tie as tie
 

@@ -6,17 +6,17 @@ use native.Mathlib.Omega.{arith}
 use borrow.Author.Needs.{needs}
 use lib.ListN.{drop}
 use Rattle.words.specs.Lists.{every}
-use Rattle.words.specs.EveryLaws.{every-stop, every-go, every-end}
+use Rattle.words.proofs.EveryLaws.{every-stop, every-go, every-end}
 use denote.Ref.{now}
 use Rattle.sectors.specs.Sectors.{sec}
 use Rattle.counts.specs.Stamps.{tableIn}
-use Rattle.counts.specs.TableLaws.{pages-cover}
+use Rattle.counts.proofs.TableLaws.{pages-cover}
 use Rattle.directory.specs.Directory.{entriesOf}
-use Rattle.directory.specs.DirectoryLaws.{entries-lt, entries-le}
+use Rattle.directory.proofs.DirectoryLaws.{entries-lt, entries-le}
 use Rattle.apages.specs.Index.{pageIn}
 use Rattle.card.specs.Files.{runAt}
 use Rattle.card.specs.Tally.{heldBy}
-use Rattle.card.specs.TallyTests.{run-below, run-paged, held-here}
+use Rattle.card.proofs.TallyTests.{run-below, run-paged, held-here}
 use Rattle.tally.proofs.runs_set.Statement.{statement}
 use Rattle.tally.proofs.runs_set.Tie as tie
 

@@ -8,9 +8,9 @@ use denote.Ref.{now}
 use Rattle.sectors.specs.Sectors.{sec}
 use Rattle.counts.specs.Stamps.{tableIn}
 use Rattle.directory.specs.Directory.{entriesOf}
-use Rattle.directory.specs.DirectoryLaws.{entries-lt, entries-le}
+use Rattle.directory.proofs.DirectoryLaws.{entries-lt, entries-le}
 use Rattle.card.specs.Files.{filesOf, sectorsOf, runAt}
-use Rattle.card.specs.TallyTests.{run-below, sectors-next, sectors-end}
+use Rattle.card.proofs.TallyTests.{run-below, sectors-next, sectors-end}
 use Rattle.tally.proofs.sectors_in.Statement.{statement}
 use Rattle.tally.proofs.sectors_in.Tie as tie
 

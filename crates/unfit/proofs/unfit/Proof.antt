@@ -1,6 +1,6 @@
 -- Closed, or the fit test turned round. Assumes nothing.
 use borrow.Author.Needs.{needs}
-use Rattle.store.specs.Fitting.{unfit-closed, unfit-open}
+use Rattle.store.proofs.Fitting.{unfit-closed, unfit-open}
 use Rattle.unfit.proofs.unfit.Statement.{statement}
 use Rattle.unfit.proofs.unfit.Tie as tie
 

@@ -1,6 +1,6 @@
 -- Closed, another length, or the fit test turned round. Assumes nothing.
 use borrow.Author.Needs.{needs}
-use Rattle.store.specs.Fitting.{unfit-on-closed, unfit-on-1, unfit-on-open}
+use Rattle.store.proofs.Fitting.{unfit-on-closed, unfit-on-1, unfit-on-open}
 use Rattle.unfit.proofs.unfit_on.Statement.{statement}
 use Rattle.unfit.proofs.unfit_on.Tie as tie
 

@@ -1,0 +1,4 @@
+-- Proofs: the table of numbers.
+pub mod NumbersWhole
+pub mod NumbersFile
+pub mod NumbersProved

@@ -1,0 +1,10 @@
+pub mod PlainList
+pub mod Numbers
+pub mod Refusals
+pub mod PlainCalls
+pub mod Barriers
+pub mod Answers
+pub mod Untouched
+pub mod Places
+pub mod PairLeaves
+pub mod Goals

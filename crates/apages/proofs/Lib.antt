@@ -1,0 +1,21 @@
+-- Laws and proofs that belong to no one function.
+pub mod BitLaws
+pub mod ByteLaws
+pub mod RunLaws
+pub mod OnesLaws
+pub mod Scan
+pub mod LowestLaws
+pub mod PassLaws
+pub mod IndexLaws
+pub mod PageLaws
+pub mod MapLaws
+pub mod FrameLaws
+pub mod IndexViews
+pub mod Remapped
+pub mod Changing
+pub mod ChangeLaws
+pub mod AgainLaws
+pub mod PageSearch
+pub mod FreeLaws
+pub mod Either
+pub mod Joined

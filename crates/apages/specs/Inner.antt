@@ -1,0 +1,64 @@
+-- What the contracts of inner functions cite besides the words of the papers: what such a function asks of its caller, and what it answers. Assumes nothing.
+use mathlib.Core.Path.{_≡_}
+use mathlib.Core.List.{List, [], _∷_}
+use mathlib.Core.Bool.{true}
+use Prim.Native.Nat.{ℕ, zero, suc, _+_, _*_, _≤_, _<_}
+use lib.Bits.{bitOr}
+use Rattle.words.specs.declared.Found.{Found}
+use Rattle.words.specs.Bytes.{wordAt}
+use Rattle.sectors.specs.Sectors.{sec, Cells}
+use Rattle.counts.specs.Geometry.{gP}
+use Rattle.counts.specs.declared.Geo.{Geo}
+use Rattle.apages.specs.Bits.{putDigit, bitAt, bitsOf}
+use Rattle.apages.specs.Index.{groupOf, indexIn, pairOk, mapFrom}
+use Rattle.apages.specs.Runs.{merge, findRun}
+
+-- x with its lowest k bits made v, one after the other
+unfoldable pub putDigits : ℕ → ℕ → ℕ → ℕ
+putDigits x zero v = x
+putDigits x (suc k) v = putDigit (putDigits x k v) k v
+
+-- how many of two pages have the bit of sector n set: 0 where it is free in both
+unfoldable pub busyAt : List ℕ → List ℕ → ℕ → ℕ
+busyAt p q n = bitAt p n + bitAt q n
+
+-- the length of the free run that ends with a sector, from that of the run before it
+abbrev pub runUpTo : ℕ → ℕ → ℕ
+runUpTo zero have = have + 1
+runUpTo (suc b) have = 0
+
+-- A and B of every group are its pair
+abbrev pub PairIn : Geo → List ℕ → Type 0
+PairIn g img = (p : ℕ) → p < gP g → pairOk g p (wordAt (groupOf (indexIn g (sec img)) p) 8) (wordAt (groupOf (indexIn g (sec img)) p) 12) ≡ true
+
+-- a sector that is one of pair p
+abbrev pub IsPage : Geo → ℕ → ℕ → Type 0
+IsPage g p a = (g .t + 2 + 2 * p ≤ a) × (a ≤ g .t + 3 + 2 * p)
+
+-- pair q is as it was, to the byte: its group, and both of its pages
+pub record PairSame (g : Geo) (img img′ : List ℕ) (q : ℕ) : Type 0 where
+  pub group : groupOf (indexIn g (sec img′)) q ≡ groupOf (indexIn g (sec img)) q
+  pub first : sec img′ (g .t + 2 + 2 * q) ≡ sec img (g .t + 2 + 2 * q)
+  pub second : sec img′ (g .t + 3 + 2 * q) ≡ sec img (g .t + 3 + 2 * q)
+
+-- the bytes of a group, as code lends them: 16 of them from 512 (T + 1) + 16p on
+abbrev pub groupAt : Geo → ℕ → ℕ
+groupAt g p = 512 * (g .t + 1) + 16 * p
+
+-- how many of the two maps have the bit set, over n pages from pair p on
+unfoldable pub mergeFrom : Geo → List ℕ → List ℕ → Cells → ℕ → ℕ → List ℕ
+mergeFrom g tp tc k p n = merge (bitsOf (mapFrom g tp k p n)) (bitsOf (mapFrom g tc k p n))
+
+-- the search over n pages from pair p on, of two views' maps
+unfoldable pub runFrom : Geo → List ℕ → List ℕ → Cells → ℕ → ℕ → ℕ → Found
+runFrom g tp tc k c p n = findRun c (4096 * p) (mergeFrom g tp tc k p n)
+
+-- the bits that either number has
+unfoldable pub eitherOf : ℕ → ℕ → ℕ
+eitherOf x y = bitOr x y
+
+-- the bytes of two maps, one by one
+unfoldable pub either : List ℕ → List ℕ → List ℕ
+either [] q = []
+either (x ∷ p) [] = []
+either (x ∷ p) (y ∷ q) = eitherOf x y ∷ either p q

@@ -1,0 +1,4 @@
+-- Laws and proofs that belong to no one function.
+pub mod TableLaws
+pub mod StampLaws
+pub mod GeoLaws

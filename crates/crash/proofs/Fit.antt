@@ -1,0 +1,4 @@
+-- Proofs: what keeps a session fitting.
+pub mod FitMount
+pub mod FitHistory
+pub mod FitKeptProved

@@ -1,0 +1,14 @@
+pub mod History
+pub mod Steady
+pub mod FitKept
+pub mod Leaves
+pub mod NoTwo
+pub mod Field
+pub mod Free
+pub mod Sharp
+pub mod Whole
+pub mod Along
+pub mod HostRuns
+pub mod HostFits
+pub mod Fewer
+pub mod Worries

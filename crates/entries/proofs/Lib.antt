@@ -1,0 +1,5 @@
+-- Laws and proofs that belong to no one function.
+pub mod PassLaws
+pub mod CodecLaws
+pub mod EntryLaws
+pub mod ChangeLaws

@@ -1,0 +1,129 @@
+-- The writes of a change one after the other: content, entry, bitmap. The first two leave table and index as they are. Assumes nothing.
+use mathlib.Core.Path.{_≡_, refl, sym, ap, _∙_}
+use mathlib.Core.Logic.{_≢_}
+use mathlib.Core.List.{List, []}
+use Prim.Native.Nat.{ℕ, zero, suc, _+_, _-_, _*_, _≤_, _<_}
+use native.Mathlib.Omega.{arith}
+use lib.ListN.{length, take, getD, set, replicate, getD-replicate, length-replicate}
+use lib.Seq.{take-all}
+use Rattle.words.specs.Lists.{splice, pad}
+use Rattle.words.proofs.SpliceLaws.{splice-length, splice-nil, splice-turn, splice-then}
+use Rattle.sectors.specs.Sectors.{sec}
+use Rattle.sectors.proofs.FlatLaws.{run-other}
+use Rattle.counts.specs.declared.Stamp.{Stamp}
+use Rattle.counts.specs.Geometry.{gDir}
+use Rattle.counts.specs.declared.View.{View}
+use Rattle.counts.proofs.GeoLaws.{table-same}
+use Rattle.counts.specs.Inner.{LaidOut}
+use Rattle.counts.specs.Stamps.{tableIn}
+use Rattle.entries.specs.declared.Entry.{Entry}
+use Rattle.entries.specs.declared.Run.{Run}
+use Rattle.entries.specs.declared.Version.{Version}
+use Rattle.entries.specs.Entries.{entryOf, entryBytes, changed}
+use Rattle.entries.proofs.CodecLaws.{entryBytes-length}
+use Rattle.entries.proofs.ChangeLaws.{pad-length}
+use Rattle.directory.specs.Directory.{entriesOf, spotOf, setEntry}
+use Rattle.directory.proofs.DirectoryLaws.{entries-lt}
+use Rattle.directory.proofs.SpotLaws.{SpotOk, at-spot, entry-length, entry-other}
+use Rattle.apages.specs.Index.{indexIn, changeBits}
+use Rattle.card.specs.Files.{runAt}
+use Rattle.session.specs.declared.Opened.{Opened}
+use Rattle.session.specs.Views.{ownStamp, presentView, presentTable}
+use Rattle.store.specs.Edit.{putContent, editWork}
+use Rattle.apages.specs.Inner.{PairIn}
+use Rattle.store.specs.Inner.{CanEdit}
+
+-- ---- zeros, in a loop
+
+zeros-length : (n : ℕ) → length {A = ℕ} (replicate n 0) ≡ n
+zeros-length n = length-replicate n 0
+
+zero-in : (n i : ℕ) → i < n → getD {A = ℕ} (replicate n 0) i 0 ≡ 0
+zero-in n i h = getD-replicate n i 0 0 h
+
+pub zeros-start : (s : List ℕ) (at n : ℕ) → s ≡ splice s at (take 0 (replicate n 0))
+zeros-start s at n = sym (splice-nil s at)
+
+pub zeros-turn : (s t : List ℕ) (at n i : ℕ) → i < n → t ≡ splice s at (take i (replicate n 0)) → set t (at + i) 0 ≡ splice s at (take (i + 1) (replicate n 0))
+zeros-turn s t at n i h e =
+    let z : List ℕ = replicate n 0 in
+    let l : i < length z = omega (arith, zeros-length n) in
+    rw e (rw (zero-in n i h) at (splice-turn s at (replicate n 0) i l))
+
+pub zeros-end : (s t : List ℕ) (at n i : ℕ) → n ≤ i → t ≡ splice s at (take i (replicate n 0)) → t ≡ splice s at (replicate n 0)
+zeros-end s t at n i h e = e ∙ ap (λ (l : List ℕ). splice s at l) (take-all i (replicate n 0) (omega (arith, zeros-length n)))
+
+-- ---- the content
+
+pub content-none : (a k : ℕ) (d img : List ℕ) → k ≡ 0 → img ≡ putContent a k d img
+unfolding putContent
+content-none a zero d img h = refl
+content-none a (suc k) d img h = absurd (omega arith)
+
+-- "The last sector is filled with zeros."
+pub content-put : (a k : ℕ) (d img : List ℕ) {t u : List ℕ} → k ≢ 0 → t ≡ splice img (512 * a) d → u ≡ splice t (512 * a + length d) (replicate (512 * k - length d) 0)
+    → u ≡ putContent a k d img
+unfolding putContent pad
+content-put a zero d img h e f = absurd (h refl)
+content-put a (suc k) d img h e f = f ∙ rw e (splice-then img (512 * a) d _)
+
+pub content-length : (a k : ℕ) (d img : List ℕ) → length (putContent a k d img) ≡ length img
+unfolding putContent
+content-length a zero d img = refl
+content-length a (suc k) d img = splice-length img (512 * a) _
+
+pub content-other : (a k : ℕ) (d img : List ℕ) → length d ≤ 512 * k → (i : ℕ) → ¬ ((a ≤ i) × (i < a + k)) → sec (putContent a k d img) i ≡ sec img i
+unfolding putContent
+content-other a zero d img h i o = refl
+content-other a (suc k) d img h i o = run-other img a (suc k) (pad (512 * suc k) d) i (pad-length (512 * suc k) d h) o
+
+-- ---- content and entry, then the bitmap
+
+module _ (s : Opened) (work n d : List ℕ) (j a k : ℕ) (v : Version) (C : CanEdit s work j a k n d) where
+  abbrev newEntry : Entry
+  newEntry = changed (presentTable s (sec work)) (ownStamp s) (entryOf (getD (entriesOf (s .geo) (sec work)) j [])) n v
+
+  abbrev withEntry : List ℕ
+  withEntry = setEntry (spotOf (s .geo) j) (entryBytes newEntry) (putContent a k d work)
+
+  entry-wide : length (entryBytes newEntry) ≡ 128
+  unfolding changed
+  entry-wide = entryBytes-length _ (pad-length 32 n (C .short))
+
+  spot : SpotOk (gDir (s .geo)) (gDir (s .geo) + s .geo .d) (spotOf (s .geo) j)
+  spot = at-spot (s .geo) (sec work) j [] (entries-lt (s .geo) work j (C .below)) .0
+
+  spot-room : 512 * spotOf (s .geo) j .sector + 512 ≤ length (putContent a k d work)
+  spot-room = omega (arith, content-length a k d work, spot .high, C .laid .room)
+
+  with-length : length withEntry ≡ length work
+  with-length = entry-length (spotOf (s .geo) j) (entryBytes newEntry) (putContent a k d work) spot-room (spot .four) entry-wide ∙ content-length a k d work
+
+  -- the table and the index stay as they are
+  kept : (i : ℕ) → i < gDir (s .geo) → sec withEntry i ≡ sec work i
+  kept i h =
+      entry-other (spotOf (s .geo) j) (entryBytes newEntry) (putContent a k d work) spot-room (spot .four) entry-wide i (λ e. omega (arith, spot .low))
+      ∙ content-other a k d work (C .enough) i (λ q. omega (arith, C .inside (omega (arith, q .0, q .1)), q .0))
+
+  module _ {e : Entry} {w₁ w₂ : List ℕ} (ee : e ≡ newEntry) (e₁ : w₁ ≡ putContent a k d work) (e₂ : w₂ ≡ setEntry (spotOf (s .geo) j) (entryBytes e) w₁) where
+    with-is : w₂ ≡ withEntry
+    with-is = e₂ ∙ rw (ee, e₁)
+
+    pub edit-laid : LaidOut (s .geo) w₂
+    edit-laid =
+        let l : length w₂ ≡ length work = ap length with-is ∙ with-length in
+        record { s = C .laid .s; t = C .laid .t; d = C .laid .d; past = C .laid .past; dir = C .laid .dir; room = omega (arith, C .laid .room) }
+
+    pub edit-pair : PairIn (s .geo) w₂
+    unfolding indexIn
+    edit-pair = rw (with-is, kept (s .geo .t + 1) (omega arith)) (C .pair)
+
+    table : tableIn (s .geo) (presentView s) (sec withEntry) ≡ presentTable s (sec work)
+    unfolding tableIn presentTable
+    table = rw (table-same (s .geo) (sec work) (sec withEntry) (λ i lo hi. kept i (omega arith)))
+
+    pub edit-done : {view : View} {own : Stamp} {earlier : Run} {w₃ : List ℕ} → view ≡ presentView s → own ≡ ownStamp s
+        → earlier ≡ runAt (s .geo) (presentTable s (sec work)) work j
+        → w₃ ≡ changeBits (s .geo) (tableIn (s .geo) view (sec w₂)) own a k (earlier .start .0) (earlier .sectors) w₂ → w₃ ≡ editWork s j a k v work n d
+    unfolding editWork
+    edit-done ev eo er e₃ = e₃ ∙ rw (ev, eo, er, with-is, table)

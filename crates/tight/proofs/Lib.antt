@@ -1,0 +1,3 @@
+-- Laws and proofs that belong to no one function.
+pub mod TightProved
+pub mod InnerProved
