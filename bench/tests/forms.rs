@@ -106,7 +106,7 @@ fn listed(line: &str) -> Vec<usize> {
 
 #[test]
 fn tight_lists_every_buffer_of_every_public_function() {
-    let specs = crates().join("tight/specs");
+    let specs = crates().join("promises_tight/specs");
     let mut tight = BTreeMap::new();
     for file in ["Tight.antt", "TightLists.antt"] {
         let text = fs::read_to_string(specs.join(file)).expect("tight states it");
@@ -125,7 +125,13 @@ fn tight_lists_every_buffer_of_every_public_function() {
     }
     let mut public = 0;
     for name in [
-        "fresh", "cards", "edits", "looks", "reading", "host", "lists",
+        "card_fresh",
+        "store_card",
+        "store_edit",
+        "store_look",
+        "card_read",
+        "host",
+        "lists",
     ] {
         for (function, f) in functions(name) {
             if f.public && !f.requires {
@@ -147,10 +153,10 @@ fn tight_lists_every_buffer_of_every_public_function() {
 
 #[test]
 fn tight_compares_every_inner_call_with_its_public_one() {
-    let file = crates().join("tight/specs/Inner.antt");
+    let file = crates().join("promises_tight/specs/Inner.antt");
     let text = fs::read_to_string(file).expect("tight states it");
     let mut inner = 0;
-    for name in ["cards", "edits", "looks", "fitting"] {
+    for name in ["store_card", "store_edit", "store_look", "fitting"] {
         for (function, f) in functions(name) {
             if f.public && f.requires {
                 inner += 1;
@@ -193,7 +199,14 @@ fn writes(f: &Function, buffer: &str, all: &BTreeMap<String, Function>) -> Vec<S
 fn reached() -> BTreeMap<String, Function> {
     let mut all = BTreeMap::new();
     for name in [
-        "words", "sectors", "counts", "sound", "unfit", "mounting", "syncing", "cards",
+        "words",
+        "sectors",
+        "counts",
+        "card_sound",
+        "session_unfit",
+        "store_mounting",
+        "store_syncing",
+        "store_card",
     ] {
         all.extend(functions(name));
     }

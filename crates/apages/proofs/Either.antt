@@ -5,8 +5,8 @@ use Prim.Native.Nat.{ℕ, zero, suc, _+_, _-_, _*_, _/_, _%_, _^_, max, _<_}
 use native.Mathlib.Omega.{arith}
 use lib.Bits.{bitOr, or-zero-l, or-lt, or-block, or-shr, or-mod}
 use lib.ListN.{length, getD}
-use Rattle.sums.specs.Sums.{total}
-use Rattle.sums.proofs.SumLaws.{total-add, total-one}
+use Rattle.words_sums.specs.Sums.{total}
+use Rattle.words_sums.proofs.SumLaws.{total-add, total-one}
 use Rattle.words.specs.Bytes.{wordAt}
 use Rattle.words.proofs.WordLaws.{wordAt-getD}
 use Rattle.apages.specs.Bits.{digit, bitAt}

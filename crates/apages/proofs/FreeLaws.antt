@@ -5,8 +5,8 @@ use mathlib.Core.Logic.{⊎-elim}
 use Prim.Native.Nat.{ℕ, zero, suc, _+_, _-_, _*_, _≤_, _<_}
 use native.Mathlib.Omega.{arith}
 use lib.ListN.{length, getD}
-use Rattle.sums.specs.Sums.{total, inRun}
-use Rattle.sums.proofs.SumLaws.{place, total-front, total-add, total-run, total-same, total-zero, total-empty}
+use Rattle.words_sums.specs.Sums.{total, inRun}
+use Rattle.words_sums.proofs.SumLaws.{place, total-front, total-add, total-run, total-same, total-zero, total-empty}
 use Rattle.apages.specs.Bits.{bitAt, bitsOf, clearIn, clearBits}
 use Rattle.apages.proofs.BitLaws.{bit-lt, bits-at, bits-length}
 use Rattle.apages.proofs.RunLaws.{clearIn-total, clear-total, clear-most}

@@ -10,8 +10,8 @@ use borrow.Author.Tests.{eqb-true, eq-eqb}
 use lib.Count.{ones, ones-step, ones-cat, ones-ones}
 use lib.Dec.{eqb}
 use lib.ListN.{length, getD}
-use Rattle.sums.specs.Sums.{total}
-use Rattle.sums.proofs.SumLaws.{total-add, total-same, total-split, total-front, total-one, total-tight}
+use Rattle.words_sums.specs.Sums.{total}
+use Rattle.words_sums.proofs.SumLaws.{total-add, total-same, total-split, total-front, total-one, total-tight}
 use Rattle.words.proofs.BoolLaws.{both, join}
 use Rattle.words.specs.Bytes.{wordAt}
 use Rattle.words.proofs.WordLaws.{wordAt-getD}

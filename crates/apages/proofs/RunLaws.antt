@@ -8,8 +8,8 @@ use native.Mathlib.Numerals.{add-one}
 use native.Mathlib.Omega.{arith}
 use lib.Dec.{lit<}
 use lib.ListN.{length, getD}
-use Rattle.sums.specs.Sums.{total, inRun}
-use Rattle.sums.proofs.SumLaws.{place, total-same, total-front}
+use Rattle.words_sums.specs.Sums.{total, inRun}
+use Rattle.words_sums.proofs.SumLaws.{place, total-same, total-front}
 use Rattle.apages.specs.Bits.{bitAt, putBit, setRun, bitsOf, clearIn, clearBits}
 use Rattle.apages.proofs.BitLaws.{bit-same, bit-other, putBit-length, bits-at, bits-length}
 

@@ -4,7 +4,7 @@ use mathlib.Core.List.{List}
 use Prim.Native.Nat.{ℕ, zero, suc, _+_, _*_}
 use lib.ListN.{length}
 use lib.Dec.{eqb}
-use Rattle.sums.specs.Sums.{total}
+use Rattle.words_sums.specs.Sums.{total}
 use Rattle.words.specs.Bytes.{wordAt}
 use Rattle.apages.specs.Bits.{digit, bitAt}
 

@@ -5,7 +5,7 @@ use mathlib.Core.List.{List, [], _∷_}
 use Prim.Native.Nat.{ℕ, suc, _+_}
 use native.Mathlib.Omega.{arith}
 use lib.ListN.{getD}
-use Rattle.sums.specs.Sums.{inRun}
+use Rattle.words_sums.specs.Sums.{inRun}
 use Rattle.words.specs.Lists.{every}
 use Rattle.words.proofs.EveryLaws.{every-at}
 use Rattle.counts.specs.declared.Geo.{Geo}

@@ -6,7 +6,7 @@ use Prim.Native.Nat.{ℕ, suc, _+_, _≤_, _<_}
 use native.Mathlib.Omega.{arith}
 use lib.ListN.{length, take, drop, set}
 use lib.Seq.{set-split}
-use Rattle.sums.specs.Sums.{inRun}
+use Rattle.words_sums.specs.Sums.{inRun}
 use Rattle.words.specs.Lists.{every}
 use Rattle.words.proofs.BoolLaws.{both}
 use Rattle.counts.specs.declared.Geo.{Geo}

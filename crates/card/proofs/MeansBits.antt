@@ -9,8 +9,8 @@ use native.Mathlib.Decide.{decLt}
 use borrow.Author.Tests.{eqb-true}
 use lib.ListN.{length, take, drop, getD, length-drop, List·getD-eq-default}
 use lib.Seq.{getD-drop}
-use Rattle.sums.specs.Sums.{inRun}
-use Rattle.sums.proofs.SumLaws.{Where, place}
+use Rattle.words_sums.specs.Sums.{inRun}
+use Rattle.words_sums.proofs.SumLaws.{Where, place}
 use Rattle.words.specs.Lists.{every}
 use Rattle.words.proofs.BoolLaws.{both}
 use Rattle.words.proofs.EveryLaws.{every-at}

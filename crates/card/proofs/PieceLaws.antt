@@ -6,8 +6,8 @@ use Prim.Native.Nat.{ℕ, _+_, _*_, _≤_, _<_}
 use native.Mathlib.Omega.{arith}
 use lib.ListN.{take, drop}
 use lib.Seq.{take-take}
-use Rattle.sums.specs.Sums.{inRun}
-use Rattle.sums.proofs.SumLaws.{place}
+use Rattle.words_sums.specs.Sums.{inRun}
+use Rattle.words_sums.proofs.SumLaws.{place}
 use Rattle.sectors.specs.Sectors.{sec}
 use Rattle.sectors.proofs.FlatLaws.{flat-same}
 use Rattle.entries.specs.declared.Run.{Run}

@@ -5,7 +5,7 @@ use mathlib.Core.List.{List}
 use Prim.Native.Nat.{ℕ, _+_, _*_, _≤_, _<_}
 use native.Mathlib.Omega.{arith}
 use lib.ListN.{length, take, drop}
-use Rattle.sums.specs.Sums.{inRun}
+use Rattle.words_sums.specs.Sums.{inRun}
 use Rattle.words.specs.Lists.{every}
 use Rattle.words.proofs.BoolLaws.{both}
 use Rattle.counts.specs.declared.Geo.{Geo}

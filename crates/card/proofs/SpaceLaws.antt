@@ -5,8 +5,8 @@ use mathlib.Core.List.{List, [], _∷_}
 use Prim.Native.Nat.{ℕ, _+_, _-_, _*_, _≤_, _<_}
 use native.Mathlib.Omega.{arith}
 use lib.ListN.{length}
-use Rattle.sums.specs.Sums.{total, inRun}
-use Rattle.sums.proofs.SumLaws.{total-add, total-run, total-zero}
+use Rattle.words_sums.specs.Sums.{total, inRun}
+use Rattle.words_sums.proofs.SumLaws.{total-add, total-run, total-zero}
 use Rattle.sectors.specs.Sectors.{sec, Cells}
 use Rattle.sectors.proofs.FlatLaws.{sec-in}
 use Rattle.counts.specs.declared.Geo.{Geo}

@@ -9,8 +9,8 @@ use native.Mathlib.Omega.{arith}
 use borrow.Author.Tests.{eqb-true, eq-eqb, leb-true, le-leb}
 use lib.Dec.{leb, eqb}
 use lib.ListN.{length, getD}
-use Rattle.sums.specs.Sums.{total, inRun}
-use Rattle.sums.proofs.SumLaws.{place, total-add, total-same, total-run, total-one, total-tight}
+use Rattle.words_sums.specs.Sums.{total, inRun}
+use Rattle.words_sums.proofs.SumLaws.{place, total-add, total-same, total-run, total-one, total-tight}
 use Rattle.words.specs.Lists.{every, pairwise}
 use Rattle.words.proofs.BoolLaws.{both, join, or-intro, or-cases}
 use Rattle.counts.specs.declared.Geo.{Geo}

@@ -3,7 +3,7 @@ use mathlib.Core.List.{List, [], _∷_, _++_, List·Memᴰ}
 use Prim.Native.Nat.{ℕ, _+_, _*_, _≤_, _<_}
 use lib.ListN.{length, take, drop, getD, replicate}
 use lib.Dec.{leb, ltb}
-use Rattle.sums.specs.Sums.{bit, inRun}
+use Rattle.words_sums.specs.Sums.{bit, inRun}
 use Rattle.words.specs.Lists.{firstAt, splice}
 use Rattle.words.specs.Bytes.{wordAt}
 use Rattle.sectors.specs.Sectors.{sec}

@@ -5,7 +5,7 @@ use mathlib.Core.List.{List, []}
 use Prim.Native.Nat.{ℕ, _<_}
 use lib.ListN.{length, getD}
 use lib.Dec.{leb}
-use Rattle.sums.specs.Sums.{bit}
+use Rattle.words_sums.specs.Sums.{bit}
 use Rattle.words.specs.Bytes.{wordAt}
 use Rattle.counts.specs.declared.Geo.{Geo}
 use Rattle.entries.specs.declared.Run.{Run}

@@ -104,7 +104,7 @@ pub fn entry_of(p: &[u8]) -> Entry
     requires { ⌜ length (now p) ≡ 128 ⌝ }
     ensures { λ r. ⌜ r ≡ entryOf (now (p .entry)) ⌝ }
 {
-    let stamp = stamps::stamp_of(p);
+    let stamp = counts_stamps::stamp_of(p);
     let size = words::word_at(p, 8);
     let name = name_at(p, 12);
     let new = version_of(&p[44..60]);
@@ -191,8 +191,8 @@ pub fn shown(card: &[u8], g: Geo, v: View, p: &[u8]) -> Version
     requires { ⌜ LaidOut g (now card) × (length (now p) ≡ 128) ⌝ }
     ensures { λ r. ⌜ r ≡ shown (tableIn g v (sec (now (card .entry)))) (now (p .entry)) ⌝ }
 {
-    let s = stamps::stamp_of(p);
-    let at = new_or_old(stamps::alive(card, g, v, s));
+    let s = counts_stamps::stamp_of(p);
+    let at = new_or_old(counts_stamps::alive(card, g, v, s));
     let end = at + 16;
     version_of(&p[at..end])
 }

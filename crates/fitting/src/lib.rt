@@ -1,7 +1,7 @@
 // The store for a module that answers for its session: the functions of crate host without the test of the fit.
 //
 // A caller must know what each function requires: that an open session fits the working image it is lent. In a history it always does
-// (`always-fits`, crash/FitHistory): every session starts with our mount, only the newest is used, and nobody else touches the images. A closed session
+// (`always-fits`, promises_crash/FitHistory): every session starts with our mount, only the newest is used, and nobody else touches the images. A closed session
 // is taken, and answered 4. Each function then answers as the one of crate host with the same signature, byte for byte: its `ensures` is the same.
 //
 // Slices, arrays and numbers cross as in crate host, a session as the same 24 bytes; mount, make and reading are that crate's.
@@ -10,20 +10,20 @@ ghost use Rattle.store.specs.Edit.{put, putAt, remove};
 ghost use Rattle.store.specs.Inner.{FitOf};
 ghost use Rattle.store.specs.Look.{get, free};
 ghost use Rattle.store.specs.Sync.{land, sync, unmount};
-ghost use Rattle.crossing.specs.Crossing.{decoded, roomed, kept};
+ghost use Rattle.host_crossing.specs.Crossing.{decoded, roomed, kept};
 use card::Answer;
-use cards::land_fitting;
-use cards::sync_fitting;
-use cards::unmount_fitting;
-use crossing::decoded;
-use crossing::give_room;
-use crossing::keep;
-use edits::put_at_fitting;
-use edits::put_fitting;
-use edits::remove_fitting;
-use looks::free_fitting;
-use looks::get_fitting;
+use host_crossing::decoded;
+use host_crossing::give_room;
+use host_crossing::keep;
 use sectors::Sector;
+use store_card::land_fitting;
+use store_card::sync_fitting;
+use store_card::unmount_fitting;
+use store_edit::put_at_fitting;
+use store_edit::put_fitting;
+use store_edit::remove_fitting;
+use store_look::free_fitting;
+use store_look::get_fitting;
 
 // put: 4, 9, 5, 7, 8
 #[no_mangle]

@@ -20,35 +20,35 @@ ghost use Rattle.store.specs.Edit.{put, putAt, remove};
 ghost use Rattle.store.specs.Look.{get, free};
 ghost use Rattle.store.specs.Mount.{mountPlan, mount};
 ghost use Rattle.store.specs.Sync.{bothPlan, land, sync, unmount};
-ghost use Rattle.crossing.specs.Crossing.{geoWith, decoded, encoded, reported, roomed, kept};
-ghost use Rattle.crossing.specs.FirstSteps.{planNumber, mountFirst, syncFirst, unmountFirst};
+ghost use Rattle.host_crossing.specs.Crossing.{geoWith, decoded, encoded, reported, roomed, kept};
+ghost use Rattle.host_crossing.specs.FirstSteps.{planNumber, mountFirst, syncFirst, unmountFirst};
 use card::Answer;
 use card::refusal;
 use card::success;
-use cards::land;
-use cards::mount;
-use cards::sync;
-use cards::unmount;
+use card_fresh::make;
+use card_read::read;
+use card_read::read_get;
 use counts::Geo;
-use crossing::decoded;
-use crossing::encoded;
-use crossing::give_room;
-use crossing::keep;
-use crossing::report_bytes;
-use edits::put;
-use edits::put_at;
-use edits::remove;
-use fresh::make;
-use looks::free;
-use looks::get;
-use mounting::mount_steps;
-use reading::read;
-use reading::read_get;
+use host_crossing::decoded;
+use host_crossing::encoded;
+use host_crossing::give_room;
+use host_crossing::keep;
+use host_crossing::report_bytes;
 use sectors::Sector;
 use session::Opened;
 use session::Session;
-use syncing::sync_steps;
-use syncing::unmount_steps;
+use store_card::land;
+use store_card::mount;
+use store_card::sync;
+use store_card::unmount;
+use store_edit::put;
+use store_edit::put_at;
+use store_edit::remove;
+use store_look::free;
+use store_look::get;
+use store_mounting::mount_steps;
+use store_syncing::sync_steps;
+use store_syncing::unmount_steps;
 
 // "make 1"
 #[no_mangle]
@@ -223,7 +223,7 @@ fn both_number(s: Opened, card: &[u8], work: &[u8]) -> u32
     if card.len() != 512 * (s.geo.s as usize) {
         return 1;
     }
-    let fit = fit::fits(s, work);
+    let fit = session_fit::fits(s, work);
     if !fit {
         return 2;
     }

@@ -8,22 +8,22 @@ ghost use Rattle.counts.specs.Inner.{LaidOut};
 ghost use Rattle.card.specs.Files.{noLine};
 ghost use Rattle.card.specs.Reading.{readList};
 ghost use Rattle.store.specs.Look.{list};
-ghost use Rattle.crossing.specs.Crossing.{decoded};
+ghost use Rattle.host_crossing.specs.Crossing.{decoded};
 ghost use Rattle.lists.specs.Listings.{filesAt, noListing, listingIn, sessionListing, cardListing, filledTo};
 ghost use Rattle.lists.specs.Inner.{HasRoom};
 use card::Answer;
 use card::Line;
 use card::refusal;
 use card::success;
+use card_files::file_count;
+use card_files::line_in;
+use card_sound::shape_ok;
+use card_sound::sound;
 use counts::CrashCount;
 use counts::Geo;
 use counts::TxCount;
 use counts::View;
-use files::file_count;
-use files::line_in;
 use session::Session;
-use sound::shape_ok;
-use sound::sound;
 
 // What list has judged and counted before it fills a line: its answer, and the view whose files it lists.
 pub struct Listing {
@@ -69,7 +69,7 @@ fn session_listing(session: Session, work: &[u8], room: usize) -> Listing
     let Session::Open(s) = session else {
         return no_listing(4);
     };
-    let fit = fit::fits(s, work);
+    let fit = session_fit::fits(s, work);
     if !fit {
         return no_listing(2);
     }
@@ -147,7 +147,7 @@ fn session_at(b: &[u8; 24]) -> Session
     ensures { λ r. ⌜ r ≡ decoded (now (b .entry)) ⌝ }
 {
     let bytes = *b;
-    crossing::decoded(bytes)
+    host_crossing::decoded(bytes)
 }
 
 // list for a host.

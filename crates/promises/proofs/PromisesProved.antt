@@ -5,35 +5,35 @@ use Rattle.session.specs.declared.Session.{Session}
 use Rattle.session.specs.declared.Session.the-variants.{Closed, Open}
 use Rattle.session.proofs.FitMeansProved.{fits-mean}
 use Rattle.store.specs.Inner.{FitOf}
-use Rattle.answers.proofs.RowLaws.{gives-one}
-use Rattle.answers.proofs.Numbers.NumbersProved.{numbers}
-use Rattle.answers.proofs.RefusalsProved.{refusals}
-use Rattle.crash.proofs.NoTwoProved.{no-two, in-table}
-use Rattle.answers.proofs.ShownProved.{all-show}
-use Rattle.answers.proofs.AnswersProved.{put-answers, remove-answers}
-use Rattle.crash.proofs.SteadyProved.{make-shows, mount-shows, mount-cut, sync-same, unmount-shows, land-shows, refused-same}
-use Rattle.answers.proofs.PlacesProved.{put-places, remove-places}
-use Rattle.answers.proofs.UntouchedProved.{put-changes, remove-changes}
-use Rattle.answers.proofs.PairLeavesProved.{put-pairs, remove-pairs}
-use Rattle.answers.proofs.BarriersProved.{mount-barriers, sync-barriers, unmount-barriers}
-use Rattle.crash.proofs.Leaves.LeavesProved.{land-changes, mount-changes, sync-changes, unmount-changes, counts-nothing}
-use Rattle.crash.proofs.Along.AlongProved.{simulation}
-use Rattle.crash.specs.FitKept.{FitsIn}
-use Rattle.crash.proofs.Fit.FitKeptProved.{keeps-fit}
-use Rattle.crash.proofs.Demand.{demand-three, card-possible}
-use Rattle.crash.proofs.Possible.{steps-possible}
-use Rattle.crash.proofs.WholeProved.{cuts-read-whole}
-use Rattle.crash.proofs.SharpProved.{unmount-sharp}
-use Rattle.crash.proofs.Free.FreeProved.{free-promise}
-use Rattle.crash.proofs.Free.FreeMount.{mount-free}
-use Rattle.crash.proofs.FewerProved.{as-before, counts}
-use Rattle.crash.proofs.BoundProved.{bounds, closer}
-use Rattle.answers.proofs.GoalsProved.{goals}
-use Rattle.crash.proofs.FieldProved.{demand-three-field, since, fits-since}
-use Rattle.crash.proofs.HostStops.{host-histories}
-use Rattle.crash.proofs.HostFitsProved.{host-fits}
-use Rattle.crash.proofs.WorriesProved.{sync-at-top, worn-only-looks, no-count-above, counts-used-up}
-use Rattle.crash.proofs.Wakes.{none-wakes}
+use Rattle.promises_answers.proofs.RowLaws.{gives-one}
+use Rattle.promises_answers.proofs.Numbers.NumbersProved.{numbers}
+use Rattle.promises_answers.proofs.RefusalsProved.{refusals}
+use Rattle.promises_crash.proofs.NoTwoProved.{no-two, in-table}
+use Rattle.promises_answers.proofs.ShownProved.{all-show}
+use Rattle.promises_answers.proofs.AnswersProved.{put-answers, remove-answers}
+use Rattle.promises_crash.proofs.SteadyProved.{make-shows, mount-shows, mount-cut, sync-same, unmount-shows, land-shows, refused-same}
+use Rattle.promises_answers.proofs.PlacesProved.{put-places, remove-places}
+use Rattle.promises_answers.proofs.UntouchedProved.{put-changes, remove-changes}
+use Rattle.promises_answers.proofs.PairLeavesProved.{put-pairs, remove-pairs}
+use Rattle.promises_answers.proofs.BarriersProved.{mount-barriers, sync-barriers, unmount-barriers}
+use Rattle.promises_crash.proofs.Leaves.LeavesProved.{land-changes, mount-changes, sync-changes, unmount-changes, counts-nothing}
+use Rattle.promises_crash.proofs.Along.AlongProved.{simulation}
+use Rattle.promises_crash.specs.FitKept.{FitsIn}
+use Rattle.promises_crash.proofs.Fit.FitKeptProved.{keeps-fit}
+use Rattle.promises_crash.proofs.Demand.{demand-three, card-possible}
+use Rattle.promises_crash.proofs.Possible.{steps-possible}
+use Rattle.promises_crash.proofs.WholeProved.{cuts-read-whole}
+use Rattle.promises_crash.proofs.SharpProved.{unmount-sharp}
+use Rattle.promises_crash.proofs.Free.FreeProved.{free-promise}
+use Rattle.promises_crash.proofs.Free.FreeMount.{mount-free}
+use Rattle.promises_crash.proofs.FewerProved.{as-before, counts}
+use Rattle.promises_crash.proofs.BoundProved.{bounds, closer}
+use Rattle.promises_answers.proofs.GoalsProved.{goals}
+use Rattle.promises_crash.proofs.FieldProved.{demand-three-field, since, fits-since}
+use Rattle.promises_crash.proofs.HostStops.{host-histories}
+use Rattle.promises_crash.proofs.HostFitsProved.{host-fits}
+use Rattle.promises_crash.proofs.WorriesProved.{sync-at-top, worn-only-looks, no-count-above, counts-used-up}
+use Rattle.promises_crash.proofs.Wakes.{none-wakes}
 use Rattle.promises.specs.Promises.{Promises}
 
 -- the test of a fit, as its clauses

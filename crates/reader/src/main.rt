@@ -3,8 +3,8 @@ fn main() {
     let mut card = [0u8; 65537];
     let n = io::read_full(libc::STDIN_FILENO, &mut card);
     if 65536 < n {
-        report::refused(1);
+        reader_report::refused(1);
         return;
     }
-    report::report(&card[0..n]);
+    reader_report::report(&card[0..n]);
 }

@@ -12,10 +12,10 @@ fn case(path: &[u8]) {
     let n = io::read_full(fd, &mut card);
     libc::close(fd);
     if 65536 < n {
-        report::refused(1);
+        reader_report::refused(1);
         return;
     }
-    report::report(&card[0..n]);
+    reader_report::report(&card[0..n]);
 }
 
 fn main() {

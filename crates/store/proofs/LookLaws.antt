@@ -5,7 +5,7 @@ use mathlib.Core.List.{List}
 use Prim.Native.Nat.{ℕ}
 use lib.Dec.{ltb}
 use lib.ListN.{length, getD}
-use Rattle.sums.specs.Sums.{bit}
+use Rattle.words_sums.specs.Sums.{bit}
 use Rattle.sectors.specs.Sectors.{sec}
 use Rattle.counts.specs.declared.View.{View}
 use Rattle.counts.specs.Stamps.{tableIn, asIs}

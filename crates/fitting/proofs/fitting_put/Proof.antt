@@ -1,6 +1,6 @@
 -- The inner call in the session that the bytes hold, which fits. Assumes nothing.
 use borrow.Author.Needs.{needs}
-use Rattle.crossing.proofs.CrossingLaws.{fit-over, put-over}
+use Rattle.host_crossing.proofs.CrossingLaws.{fit-over, put-over}
 use Rattle.fitting.proofs.fitting_put.Statement.{statement}
 use Rattle.fitting.proofs.fitting_put.Tie as tie
 

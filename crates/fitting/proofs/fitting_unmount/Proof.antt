@@ -1,6 +1,6 @@
 -- The inner call in the session that the bytes hold, which fits. Assumes nothing.
 use borrow.Author.Needs.{needs}
-use Rattle.crossing.proofs.CrossingLaws.{fit-on-over, unmount-kept}
+use Rattle.host_crossing.proofs.CrossingLaws.{fit-on-over, unmount-kept}
 use Rattle.fitting.proofs.fitting_unmount.Statement.{statement}
 use Rattle.fitting.proofs.fitting_unmount.Tie as tie
 

@@ -1,6 +1,6 @@
 -- Its two tests in their order. Assumes nothing.
 use Rattle.store.proofs.CallLaws.{passed, failed}
-use Rattle.crossing.proofs.FirstLaws.{both-number-1, both-number-2, both-number-0}
+use Rattle.host_crossing.proofs.FirstLaws.{both-number-1, both-number-2, both-number-0}
 use borrow.Author.Needs.{needs}
 use Rattle.host.proofs.both_number.Statement.{statement}
 use Rattle.host.proofs.both_number.Tie as tie

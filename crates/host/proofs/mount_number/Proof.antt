@@ -1,5 +1,5 @@
 -- The lengths, then what reading the card says of it. Assumes nothing.
-use Rattle.crossing.proofs.FirstLaws.{mount-size, mount-reads, mount-none, mount-left}
+use Rattle.host_crossing.proofs.FirstLaws.{mount-size, mount-reads, mount-none, mount-left}
 use borrow.Author.Needs.{needs}
 use Rattle.host.proofs.mount_number.Statement.{statement}
 use Rattle.host.proofs.mount_number.Tie as tie

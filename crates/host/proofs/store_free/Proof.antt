@@ -1,5 +1,5 @@
 -- The two figures in the session that the bytes hold, or the output as lent. Assumes nothing.
-use Rattle.crossing.proofs.CrossingLaws.{free-over}
+use Rattle.host_crossing.proofs.CrossingLaws.{free-over}
 use borrow.Author.Needs.{needs}
 use Rattle.host.proofs.store_free.Statement.{statement}
 use Rattle.host.proofs.store_free.Tie as tie

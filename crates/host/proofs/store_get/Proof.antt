@@ -1,5 +1,5 @@
 -- The call in the session that the bytes hold. Assumes nothing.
-use Rattle.crossing.proofs.CrossingLaws.{get-over}
+use Rattle.host_crossing.proofs.CrossingLaws.{get-over}
 use borrow.Author.Needs.{needs}
 use Rattle.host.proofs.store_get.Statement.{statement}
 use Rattle.host.proofs.store_get.Tie as tie

@@ -1,5 +1,5 @@
 -- The call, and its session as bytes. Assumes nothing.
-use Rattle.crossing.proofs.CrossingLaws.{mount-over}
+use Rattle.host_crossing.proofs.CrossingLaws.{mount-over}
 use borrow.Author.Needs.{needs}
 use Rattle.host.proofs.store_mount.Statement.{statement}
 use Rattle.host.proofs.store_mount.Tie as tie

@@ -1,5 +1,5 @@
 -- Refused as mount is, or its first steps. Assumes nothing.
-use Rattle.crossing.proofs.FirstLaws.{mount-can, mount-first-stop, mount-first-done}
+use Rattle.host_crossing.proofs.FirstLaws.{mount-can, mount-first-stop, mount-first-done}
 use borrow.Author.Needs.{needs}
 use Rattle.host.proofs.store_mount_steps.Statement.{statement}
 use Rattle.host.proofs.store_mount_steps.Tie as tie

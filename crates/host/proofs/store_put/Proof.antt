@@ -1,5 +1,5 @@
 -- The call in the session that the bytes hold. Assumes nothing.
-use Rattle.crossing.proofs.CrossingLaws.{put-over}
+use Rattle.host_crossing.proofs.CrossingLaws.{put-over}
 use borrow.Author.Needs.{needs}
 use Rattle.host.proofs.store_put.Statement.{statement}
 use Rattle.host.proofs.store_put.Tie as tie

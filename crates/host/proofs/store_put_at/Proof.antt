@@ -1,5 +1,5 @@
 -- The call in the session that the bytes hold. Assumes nothing.
-use Rattle.crossing.proofs.CrossingLaws.{put-at-over}
+use Rattle.host_crossing.proofs.CrossingLaws.{put-at-over}
 use borrow.Author.Needs.{needs}
 use Rattle.host.proofs.store_put_at.Statement.{statement}
 use Rattle.host.proofs.store_put_at.Tie as tie

@@ -1,5 +1,5 @@
 -- The report, or the output as lent. Assumes nothing.
-use Rattle.crossing.proofs.CrossingLaws.{read-refused, read-through}
+use Rattle.host_crossing.proofs.CrossingLaws.{read-refused, read-through}
 use borrow.Author.Needs.{needs}
 use Rattle.host.proofs.store_read.Statement.{statement}
 use Rattle.host.proofs.store_read.Tie as tie

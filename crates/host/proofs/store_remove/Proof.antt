@@ -1,5 +1,5 @@
 -- The call in the session that the bytes hold. Assumes nothing.
-use Rattle.crossing.proofs.CrossingLaws.{remove-over}
+use Rattle.host_crossing.proofs.CrossingLaws.{remove-over}
 use borrow.Author.Needs.{needs}
 use Rattle.host.proofs.store_remove.Statement.{statement}
 use Rattle.host.proofs.store_remove.Tie as tie

@@ -1,6 +1,6 @@
 -- Refused as sync is, or its steps at the first places. Assumes nothing.
 use Rattle.store.proofs.WriteLaws.{can-sync}
-use Rattle.crossing.proofs.FirstLaws.{both-passed, sync-first-closed, sync-first-stop, sync-first-9, sync-first-done}
+use Rattle.host_crossing.proofs.FirstLaws.{both-passed, sync-first-closed, sync-first-stop, sync-first-9, sync-first-done}
 use borrow.Author.Needs.{needs}
 use Rattle.host.proofs.store_sync_steps.Statement.{statement}
 use Rattle.host.proofs.store_sync_steps.Tie as tie

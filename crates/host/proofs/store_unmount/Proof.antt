@@ -1,5 +1,5 @@
 -- The call in the session that the bytes hold; its session goes to them, a refusal leaves them. Assumes nothing.
-use Rattle.crossing.proofs.CrossingLaws.{unmount-kept}
+use Rattle.host_crossing.proofs.CrossingLaws.{unmount-kept}
 use borrow.Author.Needs.{needs}
 use Rattle.host.proofs.store_unmount.Statement.{statement}
 use Rattle.host.proofs.store_unmount.Tie as tie

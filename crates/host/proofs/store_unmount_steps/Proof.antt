@@ -1,6 +1,6 @@
 -- Refused as unmount is, or its steps at the first places. Assumes nothing.
 use Rattle.store.proofs.WriteLaws.{can-sync}
-use Rattle.crossing.proofs.FirstLaws.{both-passed, unmount-first-closed, unmount-first-stop, unmount-first-done}
+use Rattle.host_crossing.proofs.FirstLaws.{both-passed, unmount-first-closed, unmount-first-stop, unmount-first-done}
 use borrow.Author.Needs.{needs}
 use Rattle.host.proofs.store_unmount_steps.Statement.{statement}
 use Rattle.host.proofs.store_unmount_steps.Tie as tie

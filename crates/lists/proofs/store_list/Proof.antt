@@ -42,7 +42,7 @@ use Rattle.card.specs.declared.Answer.{Answer}
 use Rattle.card.specs.declared.Line.{Line}
 use Rattle.session.specs.declared.Session.{Session}
 use Rattle.store.specs.Look.{list}
-use Rattle.crossing.specs.Crossing.{decoded}
+use Rattle.host_crossing.specs.Crossing.{decoded}
 use Rattle.card.proofs.Line as T
 use Rattle.card.proofs.Answer as N
 use Rattle.card.proofs.Answer.Laws as N′

@@ -1,0 +1,39 @@
+-- Both tests passed, so the report is of the files and the page shown. Assumes nothing.
+use native.Mathlib.Omega.{arith}
+use Rattle.card.proofs.SoundTests.{shape-length, shape-laid, shape-limits, sound-pair}
+use Rattle.card.proofs.ReadLaws.{read-done}
+use Rattle.card_read.proofs.read_in.Statement.{statement}
+use Rattle.card_read.proofs.read_in.Tie as tie
+
+geo-of-requires : tie.Need-geo-of-requires
+geo-of-requires c κs = shape-length _ (c .before .pre .0)
+
+as-is-requires : tie.Need-as-is-requires
+as-is-requires c κs = shape-limits _ _ (c .geo-of .ensures) (c .before .before .pre .0)
+
+word-at-requires : tie.Need-word-at-requires
+word-at-requires c κs = let l = shape-length _ (c .before .before .before .pre .0) in omega arith
+
+file-count-requires : tie.Need-file-count-requires
+file-count-requires c κs = shape-laid _ _ (c .before .before .geo-of .ensures) (c .before .before .before .before .pre .0)
+
+clear-in-requires : tie.Need-clear-in-requires
+clear-in-requires c κs = (shape-laid _ _ (c .before .before .before .geo-of .ensures) (c .before .before .before .before .before .pre .0), sound-pair _ _ (c .before .before .before .geo-of .ensures) (c .before .before .as-is .ensures) (c .before .before .before .before .before .pre .0) (c .before .before .before .before .before .pre .1))
+
+mul-t7 : tie.Need-mul-t7
+mul-t7 c = let l = shape-limits _ _ (c .before .before .before .before .before .geo-of .ensures) (c .before .before .before .before .before .before .before .pre .0) in omega (arith, l .t)
+
+returns : tie.Need-returns
+returns c = read-done _ (c .before .before .before .before .before .before .before .pre .0) (c .before .before .before .before .before .before .before .pre .1) _ _ (c .before .before .before .before .before .geo-of .ensures) (c .before .before .before .before .as-is .ensures) (c .before .before .before .word-at .ensures) (c .before .before .file-count .ensures) (c .before .clear-in .ensures)
+
+pub read-in-spec : {M : Type 1} → statement M
+read-in-spec =
+    tie.close
+    (tie.spec
+    geo-of-requires
+    as-is-requires
+    word-at-requires
+    file-count-requires
+    clear-in-requires
+    mul-t7
+    returns)

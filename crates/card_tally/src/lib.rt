@@ -1,0 +1,271 @@
+// The bitmap's rule, tested with no map: from the ones of the bitmap's words and the files' own runs.
+ghost use mathlib.Core.Path.{_≡_};
+ghost use Prim.Native.Nat.{_+_, _*_, _%_, _≤_, _<_};
+ghost use lib.ListN.{drop};
+ghost use Rattle.words.specs.Lists.{every, pairwise};
+ghost use Rattle.sectors.specs.Sectors.{sec};
+ghost use Rattle.counts.specs.Geometry.{gP};
+ghost use Rattle.counts.specs.Stamps.{tableIn};
+ghost use Rattle.counts.specs.Inner.{InLimits, LaidOut};
+ghost use Rattle.directory.specs.Directory.{entriesOf};
+ghost use Rattle.apages.specs.Ones.{allSet};
+ghost use Rattle.apages.specs.Runs.{pageOk};
+ghost use Rattle.apages.specs.Index.{pageIn};
+ghost use Rattle.apages.specs.Inner.{PairIn};
+ghost use Rattle.card.specs.Files.{filesOf, cover, sectorsOf};
+ghost use Rattle.card.specs.Inner.{RunsOk};
+ghost use Rattle.card.specs.Tally.{heldBy, partedFrom, partedIn, fixedBits};
+ghost use Rattle.card_tally.specs.Inner.{HeldRun, heldBelow};
+use card_files::run_at;
+use counts::Geo;
+use counts::View;
+use entries::Run;
+use sectors::Sector;
+
+// How many of n bits lie below F or from S up.
+fn fixed_bits(g: Geo, n: u32) -> u32
+    requires { ⌜ InLimits g × (g .s ≤ n) ⌝ }
+    ensures { λ r. ⌜ (r ≡ fixedBits g n) × (r ≤ n) ⌝ }
+{
+    let first = counts::data_first(g);
+    if g.s < first {
+        return n;
+    }
+    n - (g.s - first)
+}
+
+// Whether the bits of k sectors from a on, all of one page, are set in the page that a view shows.
+fn held(card: &[u8], g: Geo, v: View, a: u32, k: u32) -> bool
+    requires { ⌜ LaidOut g (now card) × (PairIn g (now card) × ((a % 4096 + k ≤ 4096) × (0 < k → a < 4096 * gP g))) ⌝ }
+    ensures { λ r. ⌜ r ≡ allSet (pageIn g (tableIn g v (sec (now (card .entry)))) (sec (now (card .entry)))) a k ⌝ }
+{
+    if k == 0 {
+        return true;
+    }
+    let n = card_files::page_at(card, g, v, a / 4096);
+    let at = 512 * (n.0 as usize);
+    let end = at + 512;
+    apages_ones::run_set(&card[at..end], (a % 4096) as usize, k as usize)
+}
+
+// The sectors of all files that a view shows.
+fn sectors_in(card: &[u8], g: Geo, v: View) -> u32
+    requires { ⌜ LaidOut g (now card) × RunsOk g (tableIn g v (sec (now card))) (entriesOf g (sec (now card))) ⌝ }
+    ensures { λ r. ⌜ (r ≡ sectorsOf (filesOf (tableIn g v (sec (now (card .entry)))) (entriesOf g (sec (now (card .entry)))))) × (r ≤ 16777216) ⌝ }
+{
+    let mut sum: u32 = 0;
+    let mut j = 0;
+    while j < 4 * (g.d as usize) {
+        let r = run_at(card, g, v, j);
+        sum += r.sectors;
+        j += 1;
+    }
+    sum
+}
+
+// Whether the bits of every shown run are set.
+fn runs_set(card: &[u8], g: Geo, v: View) -> bool
+    requires { ⌜ LaidOut g (now card) × (PairIn g (now card) × RunsOk g (tableIn g v (sec (now card))) (entriesOf g (sec (now card)))) ⌝ }
+    ensures { λ r. ⌜ r ≡ every (heldBy (tableIn g v (sec (now (card .entry)))) (pageIn g (tableIn g v (sec (now (card .entry)))) (sec (now (card .entry))))) (entriesOf g (sec (now (card .entry)))) ⌝ }
+{
+    let mut j = 0;
+    while j < 4 * (g.d as usize) {
+        let r = run_at(card, g, v, j);
+        let ok = held(card, g, v, r.start.0, r.sectors);
+        if !ok {
+            return false;
+        }
+        j += 1;
+    }
+    true
+}
+
+// Whether a run meets none of those that the entries from i on show.
+fn parted_from(card: &[u8], g: Geo, v: View, r: Run, i: usize) -> bool
+    requires { ⌜ LaidOut g (now card) × ((r .start .0 + r .sectors ≤ g .s) × ((i ≤ 4 * g .d) × RunsOk g (tableIn g v (sec (now card))) (entriesOf g (sec (now card))))) ⌝ }
+    ensures { λ b. ⌜ b ≡ every (partedFrom (tableIn g v (sec (now (card .entry)))) r) (drop i (entriesOf g (sec (now (card .entry))))) ⌝ }
+{
+    let end = r.start.0 + r.sectors;
+    let mut ok = true;
+    let mut j = i;
+    while j < 4 * (g.d as usize) {
+        let q = run_at(card, g, v, j);
+        ok = ok & ((end <= q.start.0) | (q.start.0 + q.sectors <= r.start.0));
+        j += 1;
+    }
+    ok
+}
+
+// Whether no two shown runs meet, run by run. From the last entry down: the files of the entries before `rest` start at `low` or past it, so a run that ends
+// there is compared with those from `rest` on only, and where the files lie in the order of their entries with none.
+fn pairs_apart(card: &[u8], g: Geo, v: View) -> bool
+    requires { ⌜ LaidOut g (now card) × RunsOk g (tableIn g v (sec (now card))) (entriesOf g (sec (now card))) ⌝ }
+    ensures { λ r. ⌜ r ≡ pairwise (partedIn (tableIn g v (sec (now (card .entry))))) (entriesOf g (sec (now (card .entry)))) ⌝ }
+{
+    let mut i = 4 * (g.d as usize);
+    let mut rest = i;
+    let mut low = g.s;
+    while 0 < i {
+        i -= 1;
+        let r = run_at(card, g, v, i);
+        if r.sectors == 0 {
+            continue;
+        }
+        if low < r.start.0 + r.sectors {
+            rest = i + 1;
+        }
+        if !parted_from(card, g, v, r, rest) {
+            return false;
+        }
+        low = r.start.0;
+    }
+    true
+}
+
+// ---- the runs one after another
+
+// The run that an entry shows; none where there is no such entry.
+fn run_in(card: &[u8], g: Geo, v: View, j: u8) -> Run
+    requires { ⌜ LaidOut g (now card) × RunsOk g (tableIn g v (sec (now card))) (entriesOf g (sec (now card))) ⌝ }
+    ensures { λ r. ⌜ HeldRun g (filesOf (tableIn g v (sec (now (card .entry)))) (entriesOf g (sec (now (card .entry))))) r ⌝ }
+{
+    let i = j as usize;
+    if i < 4 * (g.d as usize) {
+        return run_at(card, g, v, i);
+    }
+    Run {
+        start: Sector(0),
+        sectors: 0,
+        bytes: 0,
+    }
+}
+
+// Where a start belongs among the first n of an order: behind those that are not past it.
+fn place_in(card: &[u8], g: Geo, v: View, order: &[u8; 256], n: usize, start: u32) -> usize
+    requires { ⌜ LaidOut g (now card) × ((n ≤ 256) × RunsOk g (tableIn g v (sec (now card))) (entriesOf g (sec (now card)))) ⌝ }
+    ensures { λ r. ⌜ r ≤ n ⌝ }
+{
+    let mut low = 0;
+    let mut high = n;
+    while low < high {
+        let mid = (low + high) / 2;
+        let r = run_in(card, g, v, order[mid]);
+        if start < r.start.0 {
+            high = mid;
+        } else {
+            low = mid + 1;
+        }
+    }
+    low
+}
+
+// Puts j behind the first `at` of an order of n.
+fn insert(order: &mut [u8; 256], at: usize, n: usize, j: u8)
+    requires { ⌜ (at ≤ n) × (n < 256) ⌝ }
+{
+    let mut k = n;
+    while at < k {
+        order[k] = order[k - 1];
+        k -= 1;
+    }
+    order[at] = j;
+}
+
+// Takes entry j into an order of n if its run has sectors; how many the order then has.
+fn taken_in(card: &[u8], g: Geo, v: View, order: &mut [u8; 256], n: usize, j: usize) -> usize
+    requires { ⌜ LaidOut g (now card) × ((n < 256) × ((j < 4 * g .d) × RunsOk g (tableIn g v (sec (now card))) (entriesOf g (sec (now card))))) ⌝ }
+    ensures { λ r. ⌜ r ≤ n + 1 ⌝ }
+{
+    let r = run_at(card, g, v, j);
+    if r.sectors == 0 {
+        return n;
+    }
+    let at = place_in(card, g, v, order, n, r.start.0);
+    insert(order, at, n, j as u8);
+    n + 1
+}
+
+// All entries in their own order.
+fn by_entry(order: &mut [u8; 256]) {
+    let mut j = 0;
+    while j < 256 {
+        order[j] = j as u8;
+        j += 1;
+    }
+}
+
+// The entries whose runs have sectors, in the order of their starts; how many they are. Nothing rests on the order: `in_turn` looks at it.
+fn by_start(card: &[u8], g: Geo, v: View, order: &mut [u8; 256]) -> usize
+    requires { ⌜ LaidOut g (now card) × RunsOk g (tableIn g v (sec (now card))) (entriesOf g (sec (now card))) ⌝ }
+    ensures { λ r. ⌜ r ≤ 256 ⌝ }
+{
+    let mut n = 0;
+    let mut j = 0;
+    while j < 4 * (g.d as usize) {
+        n = taken_in(card, g, v, order, n, j);
+        j += 1;
+    }
+    n
+}
+
+// The sectors of the runs of the first n entries of an order, as far as each that has sectors starts where the one before ends or past it: so many
+// sectors at least are held.
+fn in_turn(card: &[u8], g: Geo, v: View, order: &[u8; 256], n: usize) -> u32
+    requires { ⌜ LaidOut g (now card) × ((n ≤ 256) × RunsOk g (tableIn g v (sec (now card))) (entriesOf g (sec (now card)))) ⌝ }
+    ensures { λ r. ⌜ r ≤ heldBelow (filesOf (tableIn g v (sec (now (card .entry)))) (entriesOf g (sec (now (card .entry))))) (g .s) ⌝ }
+{
+    let mut end = 0;
+    let mut sum = 0;
+    let mut k = 0;
+    while k < n {
+        let r = run_in(card, g, v, order[k]);
+        k += 1;
+        if r.sectors == 0 {
+            continue;
+        }
+        if r.start.0 < end {
+            return sum;
+        }
+        end = r.start.0 + r.sectors;
+        sum += r.sectors;
+    }
+    sum
+}
+
+// Whether no two shown runs meet. Runs that lie one after another, in the order of their entries or of their starts, and have all sectors that the
+// files have, do not; others are compared two by two.
+fn runs_apart(card: &[u8], g: Geo, v: View, sectors: u32) -> bool
+    requires { ⌜ LaidOut g (now card) × (RunsOk g (tableIn g v (sec (now card))) (entriesOf g (sec (now card))) × (sectors ≡ sectorsOf (filesOf (tableIn g v (sec (now card))) (entriesOf g (sec (now card)))))) ⌝ }
+    ensures { λ r. ⌜ r ≡ pairwise (partedIn (tableIn g v (sec (now (card .entry))))) (entriesOf g (sec (now (card .entry)))) ⌝ }
+{
+    let mut order = [0u8; 256];
+    by_entry(&mut order);
+    let own = in_turn(card, g, v, &order, 256);
+    if own == sectors {
+        return true;
+    }
+    let n = by_start(card, g, v, &mut order);
+    let seen = in_turn(card, g, v, &order, n);
+    if seen == sectors {
+        return true;
+    }
+    pairs_apart(card, g, v)
+}
+
+// Whether the pages that a view shows have set exactly the bits below F, from S up, and of the sectors of the shown files, each in one file; for
+// runs that are well formed.
+pub fn pages_ok(card: &[u8], g: Geo, v: View) -> bool
+    requires { ⌜ LaidOut g (now card) × (PairIn g (now card) × RunsOk g (tableIn g v (sec (now card))) (entriesOf g (sec (now card)))) ⌝ }
+    ensures { λ r. ⌜ r ≡ pageOk g (cover (filesOf (tableIn g v (sec (now (card .entry)))) (entriesOf g (sec (now (card .entry)))))) (pageIn g (tableIn g v (sec (now (card .entry)))) (sec (now (card .entry)))) ⌝ }
+{
+    let bits = 4096 * counts::pairs(g);
+    let first = counts::data_first(g);
+    let low = held(card, g, v, 0, first);
+    let high = held(card, g, v, g.s, bits - g.s);
+    let set = runs_set(card, g, v);
+    let sectors = sectors_in(card, g, v);
+    let apart = runs_apart(card, g, v, sectors);
+    let ones = bits - card_files::clear_in(card, g, v);
+    let count = fixed_bits(g, bits) + sectors;
+    low & high & set & apart & (ones == count)
+}

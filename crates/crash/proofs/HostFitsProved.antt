@@ -1,7 +1,0 @@
--- What HostFits states, proved. Assumes nothing.
-use Rattle.crash.proofs.HostRunsProved.{as-calls}
-use Rattle.crash.proofs.Fit.FitHistory.{always-fits}
-use Rattle.crash.specs.HostFits.{HostFits}
-
-pub host-fits : HostFits
-host-fits h w r = let A = as-calls r in rw (A .session, A .work) at (always-fits (A .reached))

@@ -1,0 +1,81 @@
+// When names, versions and entries keep their rules.
+ghost use mathlib.Core.Path.{_≡_};
+ghost use Prim.Native.Nat.{_+_};
+ghost use lib.ListN.{length};
+ghost use Rattle.sectors.specs.Sectors.{sec};
+ghost use Rattle.counts.specs.Stamps.{tableIn};
+ghost use Rattle.counts.specs.Inner.{InLimits, LaidOut};
+ghost use Rattle.entries.specs.Entries.{shownBytes, shown, sectorsFor, runOk, versionOk, entryOk};
+use counts::Geo;
+use counts::View;
+use entries::Run;
+use sectors::Sector;
+
+// ---- well formed
+
+// How many sectors some bytes take.
+pub fn sectors_for(bytes: u32) -> u32
+    ensures { λ r. ⌜ r ≡ sectorsFor bytes ⌝ }
+{
+    ((bytes as u64 + 511) / 512) as u32
+}
+
+// Whether a run is as long as its bytes want, and lies inside the data and one page.
+pub fn run_ok(g: Geo, r: Run) -> bool
+    requires { ⌜ InLimits g ⌝ }
+    ensures { λ ok. ⌜ ok ≡ runOk g r ⌝ }
+{
+    let whole = r.sectors == sectors_for(r.bytes);
+    if r.sectors == 0 {
+        return whole & (r.start.0 == 0);
+    }
+    let first = counts::data_first(g);
+    let end = r.start.0 as u64 + r.sectors as u64;
+    let page = (r.start.0 % 4096) as u64 + r.sectors as u64;
+    whole & ((first <= r.start.0) & (end <= g.s as u64) & (page <= 4096))
+}
+
+// Whether the 16 bytes of a version are well formed.
+pub fn version_ok(g: Geo, v: &[u8]) -> bool
+    requires { ⌜ InLimits g × (length (now v) ≡ 16) ⌝ }
+    ensures { λ r. ⌜ r ≡ versionOk g (now (v .entry)) ⌝ }
+{
+    let state = words::word_at(v, 0);
+    let start = words::word_at(v, 4);
+    let sectors = words::word_at(v, 8);
+    let bytes = words::word_at(v, 12);
+    if state == 0 {
+        return (start == 0) & (sectors == 0) & (bytes == 0);
+    }
+    let run = Run {
+        start: Sector(start),
+        sectors,
+        bytes,
+    };
+    (state == 1) & run_ok(g, run)
+}
+
+// Whether the version that an entry shows in a view is well formed.
+fn shown_ok(card: &[u8], g: Geo, v: View, p: &[u8]) -> bool
+    requires { ⌜ LaidOut g (now card) × (length (now p) ≡ 128) ⌝ }
+    ensures { λ r. ⌜ r ≡ versionOk g (shownBytes (tableIn g v (sec (now (card .entry)))) (now (p .entry))) ⌝ }
+{
+    let s = counts_stamps::stamp_of(p);
+    let at = entries::new_or_old(counts_stamps::alive(card, g, v, s));
+    let end = at + 16;
+    version_ok(g, &p[at..end])
+}
+
+// Whether an entry passes in a view.
+pub fn entry_ok(card: &[u8], g: Geo, v: View, bound: u32, p: &[u8]) -> bool
+    requires { ⌜ LaidOut g (now card) × (length (now p) ≡ 128) ⌝ }
+    ensures { λ r. ⌜ r ≡ entryOk g bound (tableIn g v (sec (now (card .entry)))) (now (p .entry)) ⌝ }
+{
+    let s = counts_stamps::stamp_of(p);
+    let below = counts_stamps::dead_below(card, g, v, bound, s);
+    let rest = words::zeros(&p[76..]);
+    let version = shown_ok(card, g, v, p);
+    let absent = entries::is_absent(entries::shown(card, g, v, p));
+    let name = entries_names::name_ok(words::word_at(p, 8), &p[12..44]);
+    counts_stamps::stamp_ok(g, s) & (below & rest & version & (absent | name))
+}

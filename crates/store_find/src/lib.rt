@@ -1,0 +1,116 @@
+// What put finds in a session's two views: an entry and a run of sectors.
+ghost use mathlib.Core.Path.{_≡_};
+ghost use mathlib.Core.Bool.{true};
+ghost use Prim.Native.Nat.{_+_, _-_, _*_, _≤_, _<_};
+ghost use lib.ListN.{length};
+ghost use Rattle.sectors.specs.Sectors.{sec};
+ghost use Rattle.counts.specs.Geometry.{gP};
+ghost use Rattle.counts.specs.Stamps.{tableIn};
+ghost use Rattle.counts.specs.Inner.{LaidOut};
+ghost use Rattle.entries.specs.Entries.{sectorsFor};
+ghost use Rattle.apages.specs.Runs.{runAfter, goalRun};
+ghost use Rattle.apages.specs.Index.{pageAt, pageIn};
+ghost use Rattle.apages.specs.Inner.{PairIn, runFrom};
+ghost use Rattle.session.specs.Fits.{fits};
+ghost use Rattle.store.specs.Edit.{placeIn, runIn};
+use card_files::page_at;
+use counts::Geo;
+use counts::View;
+use sectors::Sector;
+use session::Opened;
+use session::present_view;
+use words::Found;
+
+// The entry that put uses: one with the name in either view, otherwise the lowest absent in both.
+pub fn put_place(s: Opened, work: &[u8], name: &[u8]) -> Found
+    requires { ⌜ fits s (now work) ≡ true ⌝ }
+    ensures { λ r. ⌜ r ≡ placeIn s (now (work .entry)) (now (name .entry)) ⌝ }
+{
+    let g = s.geo;
+    let present = present_view(s);
+    let cut = counts::as_is(g);
+    let by_name = directory_search::find_name(work, g, present, cut, name);
+    match by_name {
+        Found::At(j) => Found::At(j),
+        Found::Nowhere => directory_search::find_free(work, g, present, cut),
+    }
+}
+
+// The lowest run of k sectors, from `from` on, that two pages have clear.
+fn run_between(work: &[u8], p: Sector, q: Sector, k: usize, from: usize) -> Found
+    requires { ⌜ (512 * p .0 + 512 ≤ length (now work)) × ((512 * q .0 + 512 ≤ length (now work)) × (0 < k)) ⌝ }
+    ensures { λ r. ⌜ r ≡ runAfter k from (sec (now (work .entry)) (p .0)) (sec (now (work .entry)) (q .0)) ⌝ }
+{
+    let a = 512 * (p.0 as usize);
+    let b = 512 * (q.0 as usize);
+    let a_end = a + 512;
+    let b_end = b + 512;
+    apages::run_after(&work[a..a_end], &work[b..b_end], k, from)
+}
+
+// The lowest run in page p, from its place `from` on, that is free in two views.
+fn run_on(work: &[u8], g: Geo, v: View, w: View, p: u32, k: usize, from: usize) -> Found
+    requires { ⌜ LaidOut g (now work) × (PairIn g (now work) × ((p < gP g) × (0 < k))) ⌝ }
+    ensures { λ r. ⌜ r ≡ runAfter k from (pageAt g (tableIn g v (sec (now (work .entry)))) (sec (now (work .entry))) p) (pageAt g (tableIn g w (sec (now (work .entry)))) (sec (now (work .entry))) p) ⌝ }
+{
+    let a = page_at(work, g, v, p);
+    let b = page_at(work, g, w, p);
+    run_between(work, a, b, k, from)
+}
+
+// The lowest run in the pages from `first` on and below `end` that is free in two views: that of the first page that has one.
+fn lowest_in(work: &[u8], g: Geo, v: View, w: View, k: usize, first: u32, end: u32) -> Found
+    requires { ⌜ LaidOut g (now work) × (PairIn g (now work) × ((end ≤ gP g) × (0 < k))) ⌝ }
+    ensures { λ r. ⌜ r ≡ runFrom g (tableIn g v (sec (now (work .entry)))) (tableIn g w (sec (now (work .entry)))) (sec (now (work .entry))) k first (end - first) ⌝ }
+{
+    let mut p = first;
+    while p < end {
+        let here = run_on(work, g, v, w, p, k, 0);
+        if let Found::At(a) = here {
+            return Found::At(4096 * (p as usize) + a);
+        }
+        p += 1;
+    }
+    Found::Nowhere
+}
+
+// "the first fitting run at or after it, else the lowest": the goal's page from the goal on, the later pages, the pages with a sector below the goal.
+fn goal_in(work: &[u8], g: Geo, v: View, w: View, k: usize, goal: Sector) -> Found
+    requires { ⌜ LaidOut g (now work) × (PairIn g (now work) × ((goal .0 < g .s) × (0 < k))) ⌝ }
+    ensures { λ r. ⌜ r ≡ goalRun k (goal .0) (pageIn g (tableIn g v (sec (now (work .entry)))) (sec (now (work .entry)))) (pageIn g (tableIn g w (sec (now (work .entry)))) (sec (now (work .entry)))) ⌝ }
+{
+    let p = goal.0 / 4096;
+    let from = (goal.0 % 4096) as usize;
+    let here = run_on(work, g, v, w, p, k, from);
+    if let Found::At(a) = here {
+        return Found::At(4096 * (p as usize) + a);
+    }
+    let pairs = counts::pairs(g);
+    let later = lowest_in(work, g, v, w, k, p + 1, pairs);
+    if let Found::At(a) = later {
+        return Found::At(a);
+    }
+    lowest_in(work, g, v, w, k, 0, (goal.0 + 4095) / 4096)
+}
+
+// The run that put's k sectors go to: "start 0" for none, else the first free in both views at or after the goal, else the lowest.
+pub fn run_in(s: Opened, work: &[u8], k: usize, goal: Sector) -> Found
+    requires { ⌜ (fits s (now work) ≡ true) × (goal .0 < s .geo .s) ⌝ }
+    ensures { λ r. ⌜ r ≡ runIn s (now (work .entry)) k (goal .0) ⌝ }
+{
+    if k == 0 {
+        return Found::At(0);
+    }
+    let g = s.geo;
+    let present = present_view(s);
+    let cut = counts::as_is(g);
+    goal_in(work, g, present, cut, k, goal)
+}
+
+// How many sectors a content takes, of any length.
+pub fn sectors_of(content: &[u8]) -> usize
+    ensures { λ r. ⌜ r ≡ sectorsFor (length (now (content .entry))) ⌝ }
+{
+    let n = content.len();
+    n / 512 + (n % 512 + 511) / 512
+}

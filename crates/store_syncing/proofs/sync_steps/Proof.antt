@@ -1,0 +1,60 @@
+-- At the head of the loop the first i places are done, and their writes counted. Assumes nothing.
+use mathlib.Core.Path.{_≡_, refl, ap, _∙_}
+use mathlib.Core.List.{[]}
+use Prim.Native.Nat.{_≤_, _-_}
+use native.Mathlib.Omega.{arith}
+use lib.ListN.{length, take}
+use Rattle.sectors.specs.Sectors.{applySteps}
+use Rattle.sectors.proofs.SectorLaws.{applySteps-length, steps-turn}
+use Rattle.store.specs.Steps.{allSteps, writtenAt}
+use Rattle.store.proofs.WriteLaws.{can-still}
+use Rattle.store.proofs.SyncFewer.{sync-at}
+use Rattle.store.proofs.SyncCounts.{written-none, written-turn}
+use Rattle.store_syncing.proofs.sync_steps.Statement.{statement}
+use Rattle.store_syncing.proofs.sync_steps.Tie as tie
+
+abbrev Inv-loop : tie.InvT-loop
+Inv-loop s card₀ work k written₀ i₀ card written i = (i ≤ k) × ((written ≤ i) × ((card ≡ applySteps (take i (allSteps s work [])) card₀) × (written ≡ writtenAt s card₀ work i)))
+
+abbrev μ-loop : tie.MeasureT-loop
+μ-loop s card₀ work k written₀ i₀ card written i = k - i
+
+loop-holds : tie.Need-loop-holds Inv-loop μ-loop
+unfolding applySteps
+loop-holds c = (omega arith, (omega arith, (refl, written-none _ _ _)))
+
+sync-step-requires : tie.Need-sync-step-requires Inv-loop μ-loop
+sync-step-requires c κs = can-still _ _ (c .before .before .before .before .before .pre) (ap length (c .before .before .loop .inv .1 .1 .0) ∙ applySteps-length _ _)
+
+add-written : tie.Need-add-written Inv-loop μ-loop
+add-written c = omega (arith, c .before .before .sync-step .ensures .1 .1)
+
+add-i : tie.Need-add-i Inv-loop μ-loop
+add-i c = omega arith
+
+loop-less : tie.Need-loop-less Inv-loop μ-loop
+loop-less c = omega arith
+
+loop-again : tie.Need-loop-again Inv-loop μ-loop
+loop-again c = let v = c .before .before .before .before .before .loop .inv in let e = c .before .before .sync-step .ensures in (omega arith, (omega (arith, e .1 .1), (steps-turn _ _ _ _ _ (v .1 .1 .0) (e .0), written-turn _ _ _ _ _ _ _ (v .1 .1 .0) (v .1 .1 .1) (e .1 .0))))
+
+same-length : tie.Need-same-length Inv-loop μ-loop
+same-length c = ap length (c .before .loop .inv .1 .1 .0) ∙ applySteps-length _ _
+
+returns : tie.Need-returns Inv-loop μ-loop
+returns c = let q : c .before .loop .i ≡ c .before .before .before .before .args .k = omega arith in (sync-at _ _ _ _ (rw q at (c .before .loop .inv .1 .1 .0)), rw q at (c .before .loop .inv .1 .1 .1))
+
+pub sync-steps-spec : {M : Type 1} → statement M
+sync-steps-spec =
+    tie.close
+    (tie.spec
+    Inv-loop
+    μ-loop
+    loop-holds
+    sync-step-requires
+    add-written
+    add-i
+    loop-less
+    loop-again
+    same-length
+    returns)
