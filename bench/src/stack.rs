@@ -4,9 +4,10 @@
 use std::hint::black_box;
 use std::thread;
 
-/// The stack of the thread, and the part of it that is painted.
-const STACK: usize = 16 << 20;
-const PAINTED: usize = 8 << 20;
+/// The stack of the thread, and the part of it that is painted: more than any
+/// call may use.
+const STACK: usize = 1 << 20;
+const PAINTED: usize = 64 << 10;
 /// The paint starts so far below the painter's own local.
 const RED_ZONE: usize = 256;
 const PAINT: u8 = 0xA5;
@@ -35,7 +36,9 @@ fn painted(call: &mut (dyn FnMut() + Send)) -> usize {
     let top = black_box(&local) as *const u8 as usize;
     paint(top - PAINTED);
     call();
-    top - lowest_touched(top - PAINTED, top)
+    let lowest = lowest_touched(top - PAINTED, top);
+    assert!(lowest > top - PAINTED, "a call used more than the painted stack");
+    top - lowest
 }
 
 /// Paints upward from `bottom` to just below this function's frame.

@@ -1,6 +1,6 @@
 //! The stack that calls use.
 
-use super::bed::{Bed, Call, Directory, CALLS, CARDS};
+use super::bed::{Bed, Call, Directory, Geometry, CALLS, CARDS};
 use super::markdown::{grouped, table};
 use crate::stack;
 use crate::store::{Plain, Proved, Store};
@@ -11,9 +11,10 @@ pub const OWN: bool = cfg!(target_arch = "x86_64");
 /// The most stack of each call on any of the cards: bytes of the compiled code,
 /// the same on any machine that runs it.
 pub fn stacks() -> String {
+    let beds: Vec<Bed> = CARDS.iter().flat_map(|card| filled(*card)).collect();
     let mut rows = Vec::new();
     for call in CALLS {
-        let most = [&Proved as &dyn Store, &Plain].map(|store| most_of(store, call));
+        let most = [&Proved as &dyn Store, &Plain].map(|store| most_of(store, call, &beds));
         let [proved, plain] = most.map(|bytes| grouped(bytes as u32));
         rows.push(vec![call.name(), proved, plain]);
     }
@@ -33,13 +34,14 @@ pub fn stacks() -> String {
     )
 }
 
-fn most_of(store: &dyn Store, call: Call) -> usize {
-    let cards = CARDS.iter().flat_map(|geometry| {
-        [Directory::Fresh, Directory::Full].map(|directory| (*geometry, directory))
-    });
-    let used = cards.map(|(geometry, directory)| {
-        let mut bed = Bed::before(call, geometry, directory);
-        let content = vec![7; call.content_bytes()];
+fn filled(geometry: Geometry) -> [Bed; 2] {
+    [Directory::Fresh, Directory::Full].map(|directory| Bed::filled(geometry, directory))
+}
+
+fn most_of(store: &dyn Store, call: Call, beds: &[Bed]) -> usize {
+    let content = vec![7; call.content_bytes()];
+    let used = beds.iter().map(|filled| {
+        let mut bed = filled.ready(call);
         stack::used_by(&mut || {
             bed.call(store, call, &content);
         })
