@@ -1,21 +1,25 @@
--- Two maps as one, set where either is: word by word, and the two figures of free by its ones. Assumes nothing.
+-- Two maps as one, set where either is: the sectors of one byte, word by word, and the two figures of free by its ones. Assumes nothing.
 use mathlib.Core.Path.{_≡_, refl, sym, ap, _∙_}
+use mathlib.Core.Bool.{Bool, true, false}
+use mathlib.Core.Logic.{_⊎_, inl, inr}
 use mathlib.Core.List.{List, [], _∷_}
-use Prim.Native.Nat.{ℕ, zero, suc, _+_, _-_, _*_, _/_, _%_, _^_, max, _<_}
+use Prim.Native.Nat.{ℕ, zero, suc, _+_, _-_, _*_, _/_, _%_, _^_, max, _≤_, _<_}
 use native.Mathlib.Omega.{arith}
+use borrow.Author.Tests.{eq-eqb, ne-eqb}
 use lib.Bits.{bitOr, or-zero-l, or-lt, or-block, or-shr, or-mod}
 use lib.ListN.{length, getD}
 use Rattle.words_sums.specs.Sums.{total}
 use Rattle.words_sums.proofs.SumLaws.{total-add, total-one}
+use Rattle.words.specs.Lists.{isZero}
 use Rattle.words.specs.Bytes.{wordAt}
 use Rattle.words.proofs.WordLaws.{wordAt-getD}
 use Rattle.apages.specs.Bits.{digit, bitAt}
-use Rattle.apages.proofs.BitLaws.{bit-lt}
+use Rattle.apages.proofs.BitLaws.{digit-zero, digit-full, bit-lt}
 use Rattle.apages.specs.Ones.{word64At, onesOf, setBits}
 use Rattle.apages.proofs.OnesLaws.{ones-more}
 use Rattle.apages.specs.Free.{freeIn, waitingIn}
 use Rattle.apages.proofs.FreeLaws.{freeAt, waitsAt, free-total, waiting-total}
-use Rattle.apages.specs.Inner.{eitherOf, either}
+use Rattle.apages.specs.Inner.{busyAt, Alike, eitherOf, either}
 
 pub either-length : (p q : List ℕ) → length p ≡ length q → length (either p q) ≡ length p
 unfolding either
@@ -104,6 +108,39 @@ module _ (p q : List ℕ) (alike : length p ≡ length q) (ps : (j : ℕ) → ge
   pub either-more : (at s : ℕ) {x y r : ℕ} → x ≡ word64At p at → y ≡ word64At q at → r ≡ onesOf (bitOr x y) → s ≡ total (bitAt (either p q)) (8 * at)
       → s + r ≡ total (bitAt (either p q)) (8 * (at + 8))
   either-more at s ex ey er h = ones-more (either p q) either-bytes at s h (er ∙ (unfold eitherOf in rw (ex, ey) (ap onesOf (sym (either-word at)))))
+
+-- ---- the sectors of one byte
+
+-- a sector is free where neither byte has its bit, busy where one of them has
+max-free : (x y z : ℕ) → z ≡ max x y → z ≡ 0 → isZero (x + y) ≡ true
+max-free x y z e h = eq-eqb (x + y) 0 (omega arith)
+
+max-busy : (x y z : ℕ) → z ≡ max x y → z ≡ 1 → isZero (x + y) ≡ false
+max-busy x y z e h = ne-eqb (x + y) 0 (λ n. omega arith)
+
+module _ (p q : List ℕ) (n : ℕ) (z : n % 8 ≡ 0) (x : ℕ) (ex : x ≡ bitOr (getD p (n / 8) 0) (getD q (n / 8) 0)) where
+  byte-digit : (i : ℕ) → n ≤ i → i < n + 8 → digit x (i % 8) ≡ max (bitAt p i) (bitAt q i)
+  unfolding bitAt
+  byte-digit i a b =
+      let e : i / 8 ≡ n / 8 = omega arith in
+      rw (e, ex) (unfold eitherOf in either-digit (getD p (n / 8) 0) (getD q (n / 8) 0) (i % 8))
+
+  byte-each : (x ≡ 0) ⊎ (x ≡ 255) → Bool
+  byte-each (inl h) = true
+  byte-each (inr h) = false
+
+  byte-free : (h : (x ≡ 0) ⊎ (x ≡ 255)) (i : ℕ) → n ≤ i → i < n + 8 → isZero (busyAt p q i) ≡ byte-each h
+  unfolding busyAt byte-each
+  byte-free (inl h) i a b = max-free (bitAt p i) (bitAt q i) (digit x (i % 8)) (byte-digit i a b) (rw h (digit-zero (i % 8)))
+  byte-free (inr h) i a b = max-busy (bitAt p i) (bitAt q i) (digit x (i % 8)) (byte-digit i a b) (rw h (digit-full (i % 8) (omega arith)))
+
+  -- a byte that has no bit in either map, or every bit in one of them
+  pub byte-alike : (x ≡ 0) ⊎ (x ≡ 255) → Alike p q n 8
+  byte-alike h i a b = byte-free h i a b ∙ sym (byte-free h n (omega arith) (omega arith))
+
+-- one sector is like itself
+pub one-alike : (p q : List ℕ) (n : ℕ) → Alike p q n 1
+one-alike p q n i a b = let e : i ≡ n = omega arith in rw e
 
 -- ---- the figures by the ones
 

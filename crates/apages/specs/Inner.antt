@@ -5,6 +5,7 @@ use mathlib.Core.Bool.{true}
 use Prim.Native.Nat.{ℕ, zero, suc, _+_, _*_, _≤_, _<_}
 use lib.Bits.{bitOr}
 use Rattle.words.specs.declared.Found.{Found}
+use Rattle.words.specs.Lists.{isZero}
 use Rattle.words.specs.Bytes.{wordAt}
 use Rattle.sectors.specs.Sectors.{sec, Cells}
 use Rattle.counts.specs.Geometry.{gP}
@@ -22,10 +23,14 @@ putDigits x (suc k) v = putDigit (putDigits x k v) k v
 unfoldable pub busyAt : List ℕ → List ℕ → ℕ → ℕ
 busyAt p q n = bitAt p n + bitAt q n
 
--- the length of the free run that ends with a sector, from that of the run before it
-abbrev pub runUpTo : ℕ → ℕ → ℕ
-runUpTo zero have = have + 1
-runUpTo (suc b) have = 0
+-- r sectors from n on are alike: all free in both of two pages, or all busy
+abbrev pub Alike : List ℕ → List ℕ → ℕ → ℕ → Type 0
+Alike p q n r = (i : ℕ) → n ≤ i → i < n + r → isZero (busyAt p q i) ≡ isZero (busyAt p q n)
+
+-- the length of the free run that ends with n sectors that are alike, from that of the run before them
+abbrev pub runUpTo : ℕ → ℕ → ℕ → ℕ
+runUpTo zero have n = have + n
+runUpTo (suc b) have n = 0
 
 -- A and B of every group are its pair
 abbrev pub PairIn : Geo → List ℕ → Type 0
