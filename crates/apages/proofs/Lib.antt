@@ -15,7 +15,9 @@ pub mod Remapped
 pub mod Changing
 pub mod ChangeLaws
 pub mod AgainLaws
+pub mod Reach
 pub mod PageSearch
+pub mod ImageSearch
 pub mod FreeLaws
 pub mod Either
 pub mod Joined

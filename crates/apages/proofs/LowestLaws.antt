@@ -7,8 +7,8 @@ use native.Mathlib.Decide.{ℕ-discrete, decLt}
 use native.Mathlib.Omega.{arith}
 use borrow.Author.Tests.{eqb-true, eq-eqb, leb-true, le-leb}
 use lib.Dec.{eqb}
-use lib.ListN.{length, drop, getD, length-drop, drop-of-length-le}
-use lib.Seq.{getD-drop}
+use lib.ListN.{length, take, drop, getD, length-drop, drop-of-length-le}
+use lib.Seq.{getD-drop, getD-take, take-all, length-take-le}
 use Rattle.words.specs.declared.Found.{Found}
 use Rattle.words.specs.declared.Found.the-variants.{At, Nowhere}
 use Rattle.words.specs.Lists.{orElse}
@@ -18,7 +18,7 @@ use Rattle.counts.specs.Geometry.{inPage}
 use Rattle.apages.specs.Bits.{bitAt, bitsOf}
 use Rattle.apages.proofs.BitLaws.{bits-at, bits-length}
 use Rattle.apages.specs.Runs.{merge, allClear, findRun, runAfter, lowestRun, goalRun, runFor}
-use Rattle.apages.specs.Inner.{busyAt}
+use Rattle.apages.specs.Inner.{busyAt, runWithin}
 use Rattle.apages.proofs.Scan.{GoodIn, LowestOf, Lowest, page-lowest, lowest-one}
 
 pub merge-at : (a b : List ℕ) (n : ℕ) → length a ≡ length b → getD (merge a b) n 0 ≡ getD a n 0 + getD b n 0
@@ -92,33 +92,55 @@ find-lowest f k i (x ∷ xs) h e =
         (subst (λ (n : ℕ). LowestOf (GoodIn f k) k (suc i) n (findRun k (suc i) xs)) s low)
 
 module _ (k : ℕ) (p q : List ℕ) (some : 0 < k) (alike : length p ≡ length q) where
-  abbrev both-bits : List ℕ
+  abbrev pub both-bits : List ℕ
   both-bits = merge (bitsOf p) (bitsOf q)
 
-  both-length : length both-bits ≡ 8 * length p
+  pub both-length : length both-bits ≡ 8 * length p
   both-length = merge-length (bitsOf p) (bitsOf q) (omega (arith, bits-length p, bits-length q)) ∙ bits-length p
 
   both-at : (j : ℕ) → busyAt p q j ≡ getD both-bits j 0
   unfolding busyAt
   both-at j = sym (merge-at (bitsOf p) (bitsOf q) j (omega (arith, bits-length p, bits-length q)) ∙ rw (bits-at p j, bits-at q j))
 
-  pub run-is-lowest : (lo : ℕ) → LowestOf (GoodIn (busyAt p q) k) k lo (8 * length p) (runAfter k lo p q)
-  unfolding runAfter
-  run-is-lowest lo = go (decLt (8 * length p) lo)
+  -- the search below sector hi, and the one that has no end but the maps'
+  within-lowest : (lo hi : ℕ) → hi ≤ 8 * length p → LowestOf (GoodIn (busyAt p q) k) k lo hi (runWithin k lo hi p q)
+  unfolding runWithin
+  within-lowest lo hi in-it = go (decLt hi lo)
     where
-      found : LowestOf (GoodIn (busyAt p q) k) k lo (lo + length (drop lo both-bits)) (findRun k lo (drop lo both-bits))
-      found = find-lowest (busyAt p q) k lo (drop lo both-bits) some (λ j b. both-at (lo + j) ∙ sym (getD-drop lo both-bits j 0))
+      part : List ℕ
+      part = take hi both-bits
 
-      go : Dec (8 * length p < lo) → LowestOf (GoodIn (busyAt p q) k) k lo (8 * length p) (findRun k lo (drop lo both-bits))
-      go (yes l) = let past : length both-bits ≤ lo = omega (arith, both-length) in rw (drop-of-length-le both-bits past) (unfold findRun in λ t a b good. omega arith)
+      part-length : length part ≡ hi
+      part-length = length-take-le hi both-bits (omega (arith, both-length))
+
+      part-at : (j : ℕ) → j < length (drop lo part) → busyAt p q (lo + j) ≡ getD (drop lo part) j 0
+      part-at j b =
+          both-at (lo + j) ∙ sym (getD-drop lo part j 0 ∙ (getD-take hi both-bits (lo + j) 0 (omega (arith, length-drop lo part, part-length))))
+
+      go : Dec (hi < lo) → LowestOf (GoodIn (busyAt p q) k) k lo hi (findRun k lo (drop lo part))
+      go (yes l) = let past : length part ≤ lo = omega (arith, part-length) in rw (drop-of-length-le part past) (unfold findRun in λ t a b good. omega arith)
       go (no l) =
-          let n : lo + length (drop lo both-bits) ≡ 8 * length p = omega (arith, length-drop lo both-bits, both-length) in
-          subst (λ (n : ℕ). LowestOf (GoodIn (busyAt p q) k) k lo n (findRun k lo (drop lo both-bits))) n found
+          let n : lo + length (drop lo part) ≡ hi = omega (arith, length-drop lo part, part-length) in
+          subst (λ (n : ℕ). LowestOf (GoodIn (busyAt p q) k) k lo n (findRun k lo (drop lo part))) n (find-lowest (busyAt p q) k lo (drop lo part) some part-at)
 
-  -- what a pass over one page, from sector lo on, found that is the lowest is what the definition finds
-  pub lowest-run : length p ≤ 512 → (lo : ℕ) (r : Found) → Lowest (busyAt p q) k lo (8 * length p) r → r ≡ runAfter k lo p q
-  lowest-run one lo r low =
-      lowest-one (GoodIn (busyAt p q) k) k lo (8 * length p) r (runAfter k lo p q) (page-lowest (busyAt p q) k lo (8 * length p) r (omega arith) low) (run-is-lowest lo)
+  -- what is found ends below it
+  pub within-found : (lo hi a : ℕ) → hi ≤ 8 * length p → runWithin k lo hi p q ≡ At a → a + k ≤ hi
+  within-found lo hi a l e =
+      let low : LowestOf (GoodIn (busyAt p q) k) k lo hi (At a) = subst (λ (r : Found). LowestOf (GoodIn (busyAt p q) k) k lo hi r) e (within-lowest lo hi l) in
+      low .1
+
+  pub within-all : (lo hi : ℕ) → 8 * length p ≤ hi → runWithin k lo hi p q ≡ runAfter k lo p q
+  unfolding runWithin runAfter
+  within-all lo hi l = ap (λ (m : List ℕ). findRun k lo (drop lo m)) (take-all hi both-bits (omega (arith, both-length)))
+
+  run-is-lowest : (lo : ℕ) → LowestOf (GoodIn (busyAt p q) k) k lo (8 * length p) (runAfter k lo p q)
+  run-is-lowest lo =
+      subst (λ (r : Found). LowestOf (GoodIn (busyAt p q) k) k lo (8 * length p) r) (within-all lo (8 * length p) (omega arith)) (within-lowest lo (8 * length p) (omega arith))
+
+  -- what a pass over one page, from sector lo on and below sector hi, found that is the lowest is what the definition finds
+  pub lowest-within : length p ≤ 512 → (lo hi : ℕ) (r : Found) → hi ≤ 8 * length p → Lowest (busyAt p q) k lo hi r → r ≡ runWithin k lo hi p q
+  lowest-within one lo hi r l low =
+      lowest-one (GoodIn (busyAt p q) k) k lo hi r (runWithin k lo hi p q) (page-lowest (busyAt p q) k lo hi r (omega arith) low) (within-lowest lo hi l)
 
   -- k sectors of the maps from t on, in one page, are free in both
   abbrev pub Room : ℕ → Type 0

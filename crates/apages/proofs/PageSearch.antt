@@ -1,10 +1,8 @@
--- The lowest run, page by page: the lowest in the first page that has one; the run for a goal, from the goal's page on. Assumes nothing.
+-- The lowest run, page by page: the lowest in the first page that has one; at or after a goal, and below it. Assumes nothing.
 use mathlib.Core.Path.{_≡_, refl, sym, ap, _∙_}
 use mathlib.Core.Bool.{Bool, true, false, cond, _&&_}
 use mathlib.Core.List.{List, [], _∷_, _++_}
-use Prim.Native.Nat.{ℕ, zero, suc, _+_, _-_, _*_, _/_, _%_, _≤_, _<_}
-use native.Mathlib.Decide.{ℕ-discrete}
-use native.Mathlib.Numerals.{add-one}
+use Prim.Native.Nat.{ℕ, zero, suc, _+_, _-_, _*_, _/_, _%_, _≤_, _<_, min}
 use native.Mathlib.Omega.{arith}
 use borrow.Author.Tests.{leb-true}
 use lib.ListN.{length, drop, length-drop}
@@ -20,17 +18,18 @@ use Rattle.counts.specs.Geometry.{gP, inPage}
 use Rattle.counts.specs.Inner.{LaidOut}
 use Rattle.apages.specs.Bits.{bitsOf}
 use Rattle.apages.proofs.BitLaws.{bits-length}
-use Rattle.apages.specs.Runs.{merge, allClear, findRun, runAfter, lowestRun, goalRun}
-use Rattle.apages.proofs.LowestLaws.{merge-length, after-found}
+use Rattle.apages.specs.Runs.{merge, allClear, findRun, runAfter, lowestRun}
+use Rattle.apages.proofs.LowestLaws.{merge-length}
+use Rattle.apages.proofs.Reach.{page-reach}
 use Rattle.apages.specs.Index.{groupOf, indexIn, shownPage, pageAt, mapFrom, pageIn}
-use Rattle.apages.specs.Inner.{PairIn, mergeFrom, runFrom}
+use Rattle.apages.specs.Inner.{PairIn, mergeFrom, runFrom, runWithin, further}
 use Rattle.apages.proofs.PassLaws.{shown-before}
 use Rattle.apages.proofs.MapLaws.{Wide, bits-over}
 
--- what was found, d further
-unfoldable pub further : ℕ → Found → Found
-further d (At i) = At (d + i)
-further d Nowhere = Nowhere
+further-nowhere : (d : ℕ) (a : Found) → further d a ≡ Nowhere → a ≡ Nowhere
+unfolding further
+further-nowhere d (At i) e = not-at e
+further-nowhere d Nowhere e = refl
 
 pub merge-over : (a b c d : List ℕ) → length a ≡ length b → merge (a ++ c) (b ++ d) ≡ merge a b ++ merge c d
 unfolding merge
@@ -90,6 +89,11 @@ or-nowhere : (a : Found) → orElse a Nowhere ≡ a
 unfolding orElse
 or-nowhere (At i) = refl
 or-nowhere Nowhere = refl
+
+or-first : (a b : Found) → orElse a b ≡ Nowhere → a ≡ Nowhere
+unfolding orElse
+or-first (At i) b e = not-at e
+or-first Nowhere b e = refl
 
 or-second : (a b : Found) → orElse a b ≡ Nowhere → b ≡ Nowhere
 unfolding orElse
@@ -184,86 +188,40 @@ module _ (g : Geo) (tp tc : List ℕ) (k : Cells) (c : ℕ) (wp : Wide g tp k) (
       as-merged : (i : ℕ) → runAfter c i (pageIn g tp k) (pageIn g tc k) ≡ findRun c i (drop i (mergeFrom g tp tc k 0 (gP g)))
       as-merged i = unfold runAfter mergeFrom pageIn in refl
 
-  -- where a run lies neither at nor after a goal, the lowest starts in a page with a sector below the goal
-  pub below-goal : (goal : ℕ) → goal < 4096 * gP g → runAfter c goal (pageIn g tp k) (pageIn g tc k) ≡ Nowhere
-      → goalRun c goal (pageIn g tp k) (pageIn g tc k) ≡ runFrom g tp tc k c 0 ((goal + 4095) / 4096)
-  unfolding goalRun
-  below-goal goal l none = rw none (unfold orElse in run-start ∙ go (ℕ-discrete (goal % 4096) 0))
+  -- where no run starts at or after a goal, the lowest lies in a page before the goal's, or in its page where a run from below the goal can reach
+  pub below-goal : (goal : ℕ) → goal < 4096 * gP g → 0 < c → runAfter c goal (pageIn g tp k) (pageIn g tc k) ≡ Nowhere
+      → lowestRun c (pageIn g tp k) (pageIn g tc k)
+      ≡ orElse (runFrom g tp tc k c 0 (goal / 4096))
+      (further (4096 * (goal / 4096)) (runWithin c 0 (min (goal % 4096 + c - 1) 4096) (pageAt g tp k (goal / 4096)) (pageAt g tc k (goal / 4096))))
+  below-goal goal low some none =
+      let e : m + suc n ≡ gP g = omega arith in
+      let y : 0 + m ≡ m = omega arith in
+      let w : 8 * length pp ≡ 4096 = ap (λ (i : ℕ). 8 * i) (wp m (omega arith)) in
+      let alike : length pp ≡ length pc = wp m (omega arith) ∙ sym (wc m (omega arith)) in
+      let last : runFrom g tp tc k c (0 + m) (suc n) ≡ further (4096 * m) (runWithin c 0 (min (goal % 4096 + c - 1) 4096) pp pc) =
+      ap (λ (q : ℕ). runFrom g tp tc k c q (suc n)) y ∙ run-turn m n (omega arith)
+      ∙ ap (λ (o : Found). orElse (further (4096 * m) (runAfter c 0 pp pc)) o) (or-second _ _ later) ∙ or-nowhere _
+      ∙ ap (λ (o : Found). further (4096 * m) o) (page-reach c (goal % 4096) pp pc some alike w (further-nowhere _ _ (or-first _ _ later))) in
+      run-start ∙ ap (λ (i : ℕ). runFrom g tp tc k c 0 i) (sym e) ∙ run-parts m 0 (suc n) (omega arith) ∙ ap (λ (o : Found). orElse (runFrom g tp tc k c 0 m) o) last
     where
       m : ℕ
-      m = (goal + 4095) / 4096
+      m = goal / 4096
 
-      later : orElse (further (4096 * (goal / 4096)) (runAfter c (goal % 4096) (pageAt g tp k (goal / 4096)) (pageAt g tc k (goal / 4096)))) (runFrom g tp tc k c (suc (goal / 4096)) (gP g - suc (goal / 4096))) ≡ Nowhere
-      later = sym (after-turn goal (gP g - suc (goal / 4096)) (omega arith)) ∙ none
+      n : ℕ
+      n = gP g - suc m
 
-      parts : runFrom g tp tc k c m (gP g - m) ≡ Nowhere → runFrom g tp tc k c 0 (gP g) ≡ runFrom g tp tc k c 0 m
-      parts z =
-          let e : m + (gP g - m) ≡ gP g = omega arith in
-          let y : 0 + m ≡ m = omega arith in
-          ap (λ (n : ℕ). runFrom g tp tc k c 0 n) (sym e) ∙ run-parts m 0 (gP g - m) (omega arith)
-          ∙ ap (λ (o : Found). orElse (runFrom g tp tc k c 0 m) o) (ap (λ (q : ℕ). runFrom g tp tc k c q (gP g - m)) y ∙ z) ∙ or-nowhere _
+      pp : List ℕ
+      pp = pageAt g tp k m
 
-      go : Dec (goal % 4096 ≡ 0) → runFrom g tp tc k c 0 (gP g) ≡ runFrom g tp tc k c 0 m
-      go (yes z) =
-          let e : m ≡ goal / 4096 = omega arith in
-          let f : gP g - goal / 4096 ≡ suc (gP g - suc (goal / 4096)) = omega arith in
-          parts (rw (e, f, run-turn (goal / 4096) (gP g - suc (goal / 4096)) (omega arith)) (rw z at later))
-      go (no z) =
-          let e : m ≡ suc (goal / 4096) = omega arith in
-          parts (rw e (or-second _ _ later))
+      pc : List ℕ
+      pc = pageAt g tc k m
 
--- ---- a loop over the pages of an image that has its pairs: what the search finds in those that are left
+      later : orElse (further (4096 * m) (runAfter c (goal % 4096) pp pc)) (runFrom g tp tc k c (suc m) n) ≡ Nowhere
+      later = sym (after-turn goal n (omega arith)) ∙ none
 
--- its pages lie in it
+-- the pages of an image that has its pairs lie in it
 pub pages-wide : (g : Geo) (img : List ℕ) → LaidOut g img → PairIn g img → (tab : List ℕ) → Wide g tab (sec img)
 unfolding pageAt
 pages-wide g img laid pairs tab p l =
     let r = shown-before g p tab (groupOf (indexIn g (sec img)) p) l (pairs p l) in
     sec-length img (shownPage tab (groupOf (indexIn g (sec img)) p)) (omega (arith, r .1, laid .room, laid .dir))
-
-module _ (g : Geo) (tp tc img : List ℕ) (c : ℕ) (laid : LaidOut g img) (pairs : PairIn g img) where
-  wide : (tab : List ℕ) → Wide g tab (sec img)
-  wide = pages-wide g img laid pairs
-
-  pub search-end : (p e : ℕ) {r : Found} → e ≤ p → r ≡ runFrom g tp tc (sec img) c p (e - p) → Nowhere ≡ r
-  search-end p e l er = let z : e - p ≡ 0 = omega arith in sym (er ∙ rw z (run-end g tp tc (sec img) c (wide tp) (wide tc) p))
-
-  module _ (p : ℕ) (l : p < gP g) {h : Found} (eh : h ≡ runAfter c 0 (pageAt g tp (sec img) p) (pageAt g tc (sec img) p)) where
-    turn : (e : ℕ) {r : Found} → p < e → r ≡ runFrom g tp tc (sec img) c p (e - p) → r ≡ orElse (further (4096 * p) h) (runFrom g tp tc (sec img) c (p + 1) (e - (p + 1)))
-    turn e b er =
-        let z : e - p ≡ suc (e - (p + 1)) = omega arith in
-        er ∙ rw (z, eh, add-one) (run-turn g tp tc (sec img) c (wide tp) (wide tc) p (e - suc p) l)
-
-    pub search-go : (e : ℕ) {r : Found} → p < e → h ≡ Nowhere → r ≡ runFrom g tp tc (sec img) c p (e - p) → r ≡ runFrom g tp tc (sec img) c (p + 1) (e - (p + 1))
-    search-go e b en er = turn e b er ∙ (unfold orElse further in rw en)
-
-    pub search-found : (e a : ℕ) {r : Found} → p < e → h ≡ At a → r ≡ runFrom g tp tc (sec img) c p (e - p) → At (4096 * p + a) ≡ r
-    search-found e a b ea er = sym (turn e b er ∙ (unfold orElse further in rw ea))
-
-  -- a run found in one page ends in it
-  pub search-inside : (p j a : ℕ) {h : Found} → p < gP g → h ≡ runAfter c j (pageAt g tp (sec img) p) (pageAt g tc (sec img) p) → 0 < c → h ≡ At a → a + c ≤ 4096
-  search-inside p j a l eh n ea =
-      let r = after-found c (pageAt g tp (sec img) p) (pageAt g tc (sec img) p) n (wide tp p l ∙ sym (wide tc p l)) j a (sym eh ∙ ea) in
-      omega (arith, r .1 .0, wide tp p l)
-
-  -- ---- the run for a goal: the goal's page from the goal on, the later pages, the pages with a sector below the goal
-  module _ (goal : ℕ) (low : goal < 4096 * gP g)
-      {h : Found} (eh : h ≡ runAfter c (goal % 4096) (pageAt g tp (sec img) (goal / 4096)) (pageAt g tc (sec img) (goal / 4096))) where
-    at-goal : (m : ℕ) (r : Found) → m ≡ gP g → r ≡ runFrom g tp tc (sec img) c (goal / 4096 + 1) (m - (goal / 4096 + 1))
-        → runAfter c goal (pageIn g tp (sec img)) (pageIn g tc (sec img)) ≡ orElse (further (4096 * (goal / 4096)) h) r
-    at-goal m r em er = rw (er, em, eh, add-one) (after-turn g tp tc (sec img) c (wide tp) (wide tc) goal (gP g - suc (goal / 4096)) (omega arith))
-
-    pub goal-here : (a : ℕ) → h ≡ At a → At (4096 * (goal / 4096) + a) ≡ goalRun c goal (pageIn g tp (sec img)) (pageIn g tc (sec img))
-    unfolding goalRun
-    goal-here a ea = rw (at-goal _ _ refl refl, ea) (unfold orElse further in refl)
-
-    pub goal-later : (a : ℕ) {m : ℕ} {r : Found} → h ≡ Nowhere → m ≡ gP g → r ≡ runFrom g tp tc (sec img) c (goal / 4096 + 1) (m - (goal / 4096 + 1)) → r ≡ At a
-        → At a ≡ goalRun c goal (pageIn g tp (sec img)) (pageIn g tc (sec img))
-    unfolding goalRun
-    goal-later a {m} {r} en em er ea = rw (at-goal m r em er, en, ea) (unfold orElse further in refl)
-
-    pub goal-below : {m : ℕ} {r o : Found} → h ≡ Nowhere → m ≡ gP g → r ≡ runFrom g tp tc (sec img) c (goal / 4096 + 1) (m - (goal / 4096 + 1)) → r ≡ Nowhere
-        → o ≡ runFrom g tp tc (sec img) c 0 ((goal + 4095) / 4096 - 0) → o ≡ goalRun c goal (pageIn g tp (sec img)) (pageIn g tc (sec img))
-    goal-below {m} {r} en em er ea eo =
-        let z : (goal + 4095) / 4096 - 0 ≡ (goal + 4095) / 4096 = omega arith in
-        eo ∙ rw z (sym (below-goal g tp tc (sec img) c (wide tp) (wide tc) goal low (at-goal m r em er ∙ (rw (en, ea) (unfold orElse further in refl)))))

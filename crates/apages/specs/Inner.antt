@@ -4,7 +4,9 @@ use mathlib.Core.List.{List, [], _∷_}
 use mathlib.Core.Bool.{true}
 use Prim.Native.Nat.{ℕ, zero, suc, _+_, _*_, _≤_, _<_}
 use lib.Bits.{bitOr}
+use lib.ListN.{take, drop}
 use Rattle.words.specs.declared.Found.{Found}
+use Rattle.words.specs.declared.Found.the-variants.{At, Nowhere}
 use Rattle.words.specs.Lists.{isZero}
 use Rattle.words.specs.Bytes.{wordAt}
 use Rattle.sectors.specs.Sectors.{sec, Cells}
@@ -31,6 +33,15 @@ Alike p q n r = (i : ℕ) → n ≤ i → i < n + r → isZero (busyAt p q i) �
 abbrev pub runUpTo : ℕ → ℕ → ℕ → ℕ
 runUpTo zero have n = have + n
 runUpTo (suc b) have n = 0
+
+-- the lowest run in one page from sector i on and below sector e
+unfoldable pub runWithin : ℕ → ℕ → ℕ → List ℕ → List ℕ → Found
+runWithin k i e p q = findRun k i (drop i (take e (merge (bitsOf p) (bitsOf q))))
+
+-- what was found, d further
+unfoldable pub further : ℕ → Found → Found
+further d (At i) = At (d + i)
+further d Nowhere = Nowhere
 
 -- A and B of every group are its pair
 abbrev pub PairIn : Geo → List ℕ → Type 0

@@ -1,16 +1,17 @@
 // What put finds in a session's two views: an entry and a run of sectors.
 ghost use mathlib.Core.Path.{_≡_};
 ghost use mathlib.Core.Bool.{true};
-ghost use Prim.Native.Nat.{_+_, _-_, _*_, _≤_, _<_};
+ghost use Prim.Native.Nat.{_+_, _-_, _*_, min, _≤_, _<_};
 ghost use lib.ListN.{length};
+ghost use Rattle.words.specs.declared.Found.the-variants.{Nowhere};
 ghost use Rattle.sectors.specs.Sectors.{sec};
 ghost use Rattle.counts.specs.Geometry.{gP};
 ghost use Rattle.counts.specs.Stamps.{tableIn};
 ghost use Rattle.counts.specs.Inner.{LaidOut};
 ghost use Rattle.entries.specs.Entries.{sectorsFor};
-ghost use Rattle.apages.specs.Runs.{runAfter, goalRun};
+ghost use Rattle.apages.specs.Runs.{runAfter, lowestRun, goalRun};
 ghost use Rattle.apages.specs.Index.{pageAt, pageIn};
-ghost use Rattle.apages.specs.Inner.{PairIn, runFrom};
+ghost use Rattle.apages.specs.Inner.{PairIn, runFrom, runWithin, further};
 ghost use Rattle.session.specs.Fits.{fits};
 ghost use Rattle.store.specs.Edit.{placeIn, runIn};
 use card_files::page_at;
@@ -36,26 +37,30 @@ pub fn put_place(s: Opened, work: &[u8], name: &[u8]) -> Found
     }
 }
 
-// The lowest run of k sectors, from `from` on, that two pages have clear.
-fn run_between(work: &[u8], p: Sector, q: Sector, k: usize, from: usize) -> Found
-    requires { ⌜ (512 * p .0 + 512 ≤ length (now work)) × ((512 * q .0 + 512 ≤ length (now work)) × (0 < k)) ⌝ }
-    ensures { λ r. ⌜ r ≡ runAfter k from (sec (now (work .entry)) (p .0)) (sec (now (work .entry)) (q .0)) ⌝ }
+// The lowest run of k sectors, from `from` on and below `to`, that two pages have clear.
+fn run_between(work: &[u8], p: Sector, q: Sector, k: usize, from: usize, to: usize) -> Found
+    requires { ⌜ (512 * p .0 + 512 ≤ length (now work)) × ((512 * q .0 + 512 ≤ length (now work)) × ((0 < k) × (to ≤ 4096))) ⌝ }
+    ensures { λ r. ⌜ r ≡ runWithin k from to (sec (now (work .entry)) (p .0)) (sec (now (work .entry)) (q .0)) ⌝ }
 {
     let a = 512 * (p.0 as usize);
     let b = 512 * (q.0 as usize);
     let a_end = a + 512;
     let b_end = b + 512;
-    apages::run_after(&work[a..a_end], &work[b..b_end], k, from)
+    apages::run_within(&work[a..a_end], &work[b..b_end], k, from, to)
 }
 
-// The lowest run in page p, from its place `from` on, that is free in two views.
-fn run_on(work: &[u8], g: Geo, v: View, w: View, p: u32, k: usize, from: usize) -> Found
-    requires { ⌜ LaidOut g (now work) × (PairIn g (now work) × ((p < gP g) × (0 < k))) ⌝ }
-    ensures { λ r. ⌜ r ≡ runAfter k from (pageAt g (tableIn g v (sec (now (work .entry)))) (sec (now (work .entry))) p) (pageAt g (tableIn g w (sec (now (work .entry)))) (sec (now (work .entry))) p) ⌝ }
+// The lowest run in page p, from its place `from` on and below its place `to`, that is free in two views: its first sector, as one of the card.
+fn run_on(work: &[u8], g: Geo, v: View, w: View, p: u32, k: usize, from: usize, to: usize) -> Found
+    requires { ⌜ LaidOut g (now work) × (PairIn g (now work) × ((p < gP g) × ((0 < k) × (to ≤ 4096)))) ⌝ }
+    ensures { λ r. ⌜ r ≡ further (4096 * p) (runWithin k from to (pageAt g (tableIn g v (sec (now (work .entry)))) (sec (now (work .entry))) p) (pageAt g (tableIn g w (sec (now (work .entry)))) (sec (now (work .entry))) p)) ⌝ }
 {
     let a = page_at(work, g, v, p);
     let b = page_at(work, g, w, p);
-    run_between(work, a, b, k, from)
+    let here = run_between(work, a, b, k, from, to);
+    match here {
+        Found::At(n) => Found::At(4096 * (p as usize) + n),
+        Found::Nowhere => Found::Nowhere,
+    }
 }
 
 // The lowest run in the pages from `first` on and below `end` that is free in two views: that of the first page that has one.
@@ -65,32 +70,61 @@ fn lowest_in(work: &[u8], g: Geo, v: View, w: View, k: usize, first: u32, end: u
 {
     let mut p = first;
     while p < end {
-        let here = run_on(work, g, v, w, p, k, 0);
+        let here = run_on(work, g, v, w, p, k, 0, 4096);
         if let Found::At(a) = here {
-            return Found::At(4096 * (p as usize) + a);
+            return Found::At(a);
         }
         p += 1;
     }
     Found::Nowhere
 }
 
-// "the first fitting run at or after it, else the lowest": the goal's page from the goal on, the later pages, the pages with a sector below the goal.
+// "the first fitting run at or after it": the goal's page from the goal on, then the later pages.
+fn after_in(work: &[u8], g: Geo, v: View, w: View, k: usize, goal: Sector) -> Found
+    requires { ⌜ LaidOut g (now work) × (PairIn g (now work) × ((goal .0 < g .s) × (0 < k))) ⌝ }
+    ensures { λ r. ⌜ r ≡ runAfter k (goal .0) (pageIn g (tableIn g v (sec (now (work .entry)))) (sec (now (work .entry)))) (pageIn g (tableIn g w (sec (now (work .entry)))) (sec (now (work .entry)))) ⌝ }
+{
+    let p = goal.0 / 4096;
+    let here = run_on(work, g, v, w, p, k, (goal.0 % 4096) as usize, 4096);
+    if let Found::At(a) = here {
+        return Found::At(a);
+    }
+    let pairs = counts::pairs(g);
+    lowest_in(work, g, v, w, k, p + 1, pairs)
+}
+
+// The end of what a run of k sectors that starts below `from` can reach of a page.
+fn reach(from: usize, k: usize) -> usize
+    requires { ⌜ (from ≤ 4096) × (0 < k) ⌝ }
+    ensures { λ r. ⌜ r ≡ min (from + k - 1) 4096 ⌝ }
+{
+    if k <= 4096 - from { from + k - 1 } else { 4096 }
+}
+
+// "else the lowest", where none starts at or after the goal: the pages before the goal's, then of its own no more than a run from below the goal can reach.
+fn below_in(work: &[u8], g: Geo, v: View, w: View, k: usize, goal: Sector) -> Found
+    requires { ⌜ LaidOut g (now work) × (PairIn g (now work) × ((goal .0 < g .s) × ((0 < k) × (runAfter k (goal .0) (pageIn g (tableIn g v (sec (now work))) (sec (now work))) (pageIn g (tableIn g w (sec (now work))) (sec (now work))) ≡ Nowhere)))) ⌝ }
+    ensures { λ r. ⌜ r ≡ lowestRun k (pageIn g (tableIn g v (sec (now (work .entry)))) (sec (now (work .entry)))) (pageIn g (tableIn g w (sec (now (work .entry)))) (sec (now (work .entry)))) ⌝ }
+{
+    let p = goal.0 / 4096;
+    let lower = lowest_in(work, g, v, w, k, 0, p);
+    if let Found::At(a) = lower {
+        return Found::At(a);
+    }
+    let end = reach((goal.0 % 4096) as usize, k);
+    run_on(work, g, v, w, p, k, 0, end)
+}
+
+// "the first fitting run at or after it, else the lowest": no more than one pass over all pages and k - 1 sectors.
 fn goal_in(work: &[u8], g: Geo, v: View, w: View, k: usize, goal: Sector) -> Found
     requires { ⌜ LaidOut g (now work) × (PairIn g (now work) × ((goal .0 < g .s) × (0 < k))) ⌝ }
     ensures { λ r. ⌜ r ≡ goalRun k (goal .0) (pageIn g (tableIn g v (sec (now (work .entry)))) (sec (now (work .entry)))) (pageIn g (tableIn g w (sec (now (work .entry)))) (sec (now (work .entry)))) ⌝ }
 {
-    let p = goal.0 / 4096;
-    let from = (goal.0 % 4096) as usize;
-    let here = run_on(work, g, v, w, p, k, from);
-    if let Found::At(a) = here {
-        return Found::At(4096 * (p as usize) + a);
+    let after = after_in(work, g, v, w, k, goal);
+    match after {
+        Found::At(a) => Found::At(a),
+        Found::Nowhere => below_in(work, g, v, w, k, goal),
     }
-    let pairs = counts::pairs(g);
-    let later = lowest_in(work, g, v, w, k, p + 1, pairs);
-    if let Found::At(a) = later {
-        return Found::At(a);
-    }
-    lowest_in(work, g, v, w, k, 0, (goal.0 + 4095) / 4096)
 }
 
 // The run that put's k sectors go to: "start 0" for none, else the first free in both views at or after the goal, else the lowest.

@@ -7,7 +7,7 @@ use denote.Ref.{now}
 use Rattle.sectors.specs.Sectors.{sec}
 use Rattle.counts.specs.Stamps.{tableIn}
 use Rattle.apages.specs.Inner.{runFrom}
-use Rattle.apages.proofs.PageSearch.{search-inside, search-found, search-go, search-end}
+use Rattle.apages.proofs.ImageSearch.{search-found, search-go, search-end}
 use Rattle.store_find.proofs.lowest_in.Statement.{statement}
 use Rattle.store_find.proofs.lowest_in.Tie as tie
 
@@ -23,26 +23,15 @@ loop-holds c = refl
 run-on-requires : tie.Need-run-on-requires Inv-loop μ-loop
 run-on-requires c κs =
     let s = c .before .before .before in
-    (s .pre .0, (s .pre .1 .0, (omega (arith, s .pre .1 .1 .0), s .pre .1 .1 .1)))
+    (s .pre .0, (s .pre .1 .0, (omega (arith, s .pre .1 .1 .0), (s .pre .1 .1 .1, omega arith))))
 
 enum-known-here : tie.Need-enum-known-here Inv-loop μ-loop
 enum-known-here c = search needs
 
-cast-t12 : tie.Need-cast-t12 Inv-loop μ-loop
-cast-t12 c = search needs
-
-mul-t13 : tie.Need-mul-t13 Inv-loop μ-loop
-mul-t13 c = search needs
-
-add-t14 : tie.Need-add-t14 Inv-loop μ-loop
-add-t14 c =
-    let s = c .before .before .before .before .before .before .before in
-    omega (arith, search-inside (s .args .g) _ _ (now (s .args .work)) _ (s .pre .0) (s .pre .1 .0) _ _ _ (omega (arith, s .pre .1 .1 .0)) (c .before .before .before .run-on .ensures) (s .pre .1 .1 .1) (c .before .here .given .1))
-
 returns : tie.Need-returns Inv-loop μ-loop
 returns c =
     let s = c .before .before .before .before .before .before .before in
-    search-found (s .args .g) _ _ (now (s .args .work)) _ (s .pre .0) (s .pre .1 .0) _ (omega (arith, s .pre .1 .1 .0)) (c .before .before .before .run-on .ensures) _ _ (omega arith) (c .before .here .given .1) (c .before .before .before .before .before .loop .inv)
+    search-found (s .args .g) _ _ (now (s .args .work)) _ (s .pre .0) (s .pre .1 .0) (s .pre .1 .1 .1) _ _ (omega arith) (s .pre .1 .1 .0) (c .before .before .before .run-on .ensures) (c .before .before .before .before .before .loop .inv) _ (c .before .here .given .1)
 
 enum-told : tie.Need-enum-told Inv-loop μ-loop
 enum-told c = search needs
@@ -56,12 +45,12 @@ loop-less c = search needs
 loop-again : tie.Need-loop-again Inv-loop μ-loop
 loop-again c =
     let s = c .before .before .before .before .before .before in
-    search-go (s .args .g) _ _ (now (s .args .work)) _ (s .pre .0) (s .pre .1 .0) _ (omega (arith, s .pre .1 .1 .0)) (c .before .before .run-on .ensures) _ (omega arith) (c .enum-told .given .1) (c .before .before .before .before .loop .inv)
+    search-go (s .args .g) _ _ (now (s .args .work)) _ (s .pre .0) (s .pre .1 .0) (s .pre .1 .1 .1) _ _ (omega arith) (s .pre .1 .1 .0) (c .before .before .run-on .ensures) (c .before .before .before .before .loop .inv) (c .enum-told .given .1)
 
 returns-2 : tie.Need-returns-2 Inv-loop μ-loop
 returns-2 c =
     let s = c .before .before .before in
-    search-end (s .args .g) _ _ (now (s .args .work)) _ (s .pre .0) (s .pre .1 .0) _ _ (omega arith) (c .before .loop .inv)
+    search-end (s .args .g) _ _ (now (s .args .work)) _ (s .pre .0) (s .pre .1 .0) (s .pre .1 .1 .1) _ _ (omega arith) (c .before .loop .inv)
 
 pub lowest-in-spec : {M : Type 1} → statement M
 lowest-in-spec =
@@ -72,9 +61,6 @@ lowest-in-spec =
     loop-holds
     run-on-requires
     enum-known-here
-    cast-t12
-    mul-t13
-    add-t14
     returns
     enum-told
     add-p

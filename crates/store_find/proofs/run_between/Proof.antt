@@ -24,31 +24,31 @@ add-a-end c = search needs
 add-b-end : tie.Need-add-b-end
 add-b-end c = search needs
 
-sub-run-after : tie.Need-sub-run-after
-sub-run-after c = search needs
+sub-run-within : tie.Need-sub-run-within
+sub-run-within c = search needs
 
-part-run-after-start : tie.Need-part-run-after-start
-part-run-after-start c = search needs
+part-run-within-start : tie.Need-part-run-within-start
+part-run-within-start c = search needs
 
-part-run-after-end : tie.Need-part-run-after-end
-part-run-after-end c = search needs
+part-run-within-end : tie.Need-part-run-within-end
+part-run-within-end c = search needs
 
-sub-run-after-2 : tie.Need-sub-run-after-2
-sub-run-after-2 c = search needs
+sub-run-within-2 : tie.Need-sub-run-within-2
+sub-run-within-2 c = search needs
 
-part-run-after-start-2 : tie.Need-part-run-after-start-2
-part-run-after-start-2 c = search needs
+part-run-within-start-2 : tie.Need-part-run-within-start-2
+part-run-within-start-2 c = search needs
 
-part-run-after-end-2 : tie.Need-part-run-after-end-2
-part-run-after-end-2 c = search needs
+part-run-within-end-2 : tie.Need-part-run-within-end-2
+part-run-within-end-2 c = search needs
 
-run-after-requires : tie.Need-run-after-requires
-run-after-requires c κs = search needs
+run-within-requires : tie.Need-run-within-requires
+run-within-requires c κs = search needs
 
 returns : tie.Need-returns
 returns c =
     let a = c .before .before .before .before .before .before .args in
-    c .run-after .ensures ∙ rw (sec-part (now (a .work)) (a .p .0), sec-part (now (a .work)) (a .q .0))
+    c .run-within .ensures ∙ rw (sec-part (now (a .work)) (a .p .0), sec-part (now (a .work)) (a .q .0))
 
 pub run-between-spec : {M : Type 1} → statement M
 run-between-spec =
@@ -60,11 +60,11 @@ run-between-spec =
     mul-b
     add-a-end
     add-b-end
-    sub-run-after
-    part-run-after-start
-    part-run-after-end
-    sub-run-after-2
-    part-run-after-start-2
-    part-run-after-end-2
-    run-after-requires
+    sub-run-within
+    part-run-within-start
+    part-run-within-end
+    sub-run-within-2
+    part-run-within-start-2
+    part-run-within-end-2
+    run-within-requires
     returns)
