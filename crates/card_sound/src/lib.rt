@@ -10,8 +10,8 @@ use counts::CrashCount;
 use counts::Geo;
 use counts::View;
 
-// Whether a view passes the index, entry and bitmap rules; a dead stamp has its count below the bound.
-pub fn view_ok(card: &[u8], g: Geo, v: View, bound: u32) -> bool
+// Whether a view passes the index, entry and bitmap rules; a dead stamp has its count below the bound. What the scratch holds is of no use before or after.
+pub fn view_ok(card: &[u8], g: Geo, v: View, bound: u32, scratch: &mut [u8; 128]) -> bool
     requires { ⌜ LaidOut g (now card) ⌝ }
     ensures { λ r. ⌜ r ≡ viewOk g bound (tableIn g v (sec (now (card .entry)))) (sec (now (card .entry))) ⌝ }
 {
@@ -25,7 +25,7 @@ pub fn view_ok(card: &[u8], g: Geo, v: View, bound: u32) -> bool
     if !entries {
         return false;
     }
-    card_tally::pages_ok(card, g, v)
+    card_tally::pages_ok(card, g, v, scratch)
 }
 
 // Whether an image is sound by a geometry.
@@ -37,7 +37,8 @@ pub fn sound_in(card: &[u8], g: Geo) -> bool
     let rest = words::zeros(&card[16..512]);
     let v = counts::as_is(g);
     let table = counts_table::table_ok(card, g, CrashCount(c));
-    let view = view_ok(card, g, v, c);
+    let mut scratch = [0u8; 128];
+    let view = view_ok(card, g, v, c, &mut scratch);
     let names = directory_rules::names_ok(card, g, v, v);
     (c <= 128 * g.t) & rest & table & view & names
 }

@@ -15,12 +15,12 @@ ghost use Rattle.apages.specs.Inner.{PairIn};
 ghost use Rattle.card.specs.Files.{filesOf, cover, sectorsOf};
 ghost use Rattle.card.specs.Inner.{RunsOk};
 ghost use Rattle.card.specs.Tally.{heldBy, partedFrom, partedIn, fixedBits};
-ghost use Rattle.card_tally.specs.Inner.{HeldRun, heldBelow};
+ghost use Rattle.card_order.specs.Inner.{Walked};
 use card_files::run_at;
+use card_order::Walk;
 use counts::Geo;
 use counts::View;
 use entries::Run;
-use sectors::Sector;
 
 // How many of n bits lie below F or from S up.
 fn fixed_bits(g: Geo, n: u32) -> u32
@@ -124,137 +124,44 @@ fn pairs_apart(card: &[u8], g: Geo, v: View) -> bool
 
 // ---- the runs one after another
 
-// The run that an entry shows; none where there is no such entry.
-fn run_in(card: &[u8], g: Geo, v: View, j: u8) -> Run
+// The walk over the runs in the order of their entries.
+fn by_entry(card: &[u8], g: Geo, v: View) -> Walk
     requires { ⌜ LaidOut g (now card) × RunsOk g (tableIn g v (sec (now card))) (entriesOf g (sec (now card))) ⌝ }
-    ensures { λ r. ⌜ HeldRun g (filesOf (tableIn g v (sec (now (card .entry)))) (entriesOf g (sec (now (card .entry))))) r ⌝ }
+    ensures { λ r. ⌜ Walked g (filesOf (tableIn g v (sec (now (card .entry)))) (entriesOf g (sec (now (card .entry))))) r ⌝ }
 {
-    let i = j as usize;
-    if i < 4 * (g.d as usize) {
-        return run_at(card, g, v, i);
-    }
-    Run {
-        start: Sector(0),
-        sectors: 0,
-        bytes: 0,
-    }
-}
-
-// Where a start belongs among the first n of an order: behind those that are not past it.
-fn place_in(card: &[u8], g: Geo, v: View, order: &[u8; 256], n: usize, start: u32) -> usize
-    requires { ⌜ LaidOut g (now card) × ((n ≤ 256) × RunsOk g (tableIn g v (sec (now card))) (entriesOf g (sec (now card)))) ⌝ }
-    ensures { λ r. ⌜ r ≤ n ⌝ }
-{
-    let mut low = 0;
-    let mut high = n;
-    while low < high {
-        let mid = (low + high) / 2;
-        let r = run_in(card, g, v, order[mid]);
-        if start < r.start.0 {
-            high = mid;
-        } else {
-            low = mid + 1;
-        }
-    }
-    low
-}
-
-// Puts j behind the first `at` of an order of n.
-fn insert(order: &mut [u8; 256], at: usize, n: usize, j: u8)
-    requires { ⌜ (at ≤ n) × (n < 256) ⌝ }
-{
-    let mut k = n;
-    while at < k {
-        order[k] = order[k - 1];
-        k -= 1;
-    }
-    order[at] = j;
-}
-
-// Takes entry j into an order of n if its run has sectors; how many the order then has.
-fn taken_in(card: &[u8], g: Geo, v: View, order: &mut [u8; 256], n: usize, j: usize) -> usize
-    requires { ⌜ LaidOut g (now card) × ((n < 256) × ((j < 4 * g .d) × RunsOk g (tableIn g v (sec (now card))) (entriesOf g (sec (now card))))) ⌝ }
-    ensures { λ r. ⌜ r ≤ n + 1 ⌝ }
-{
-    let r = run_at(card, g, v, j);
-    if r.sectors == 0 {
-        return n;
-    }
-    let at = place_in(card, g, v, order, n, r.start.0);
-    insert(order, at, n, j as u8);
-    n + 1
-}
-
-// All entries in their own order.
-fn by_entry(order: &mut [u8; 256]) {
-    let mut j = 0;
-    while j < 256 {
-        order[j] = j as u8;
-        j += 1;
-    }
-}
-
-// The entries whose runs have sectors, in the order of their starts; how many they are. Nothing rests on the order: `in_turn` looks at it.
-fn by_start(card: &[u8], g: Geo, v: View, order: &mut [u8; 256]) -> usize
-    requires { ⌜ LaidOut g (now card) × RunsOk g (tableIn g v (sec (now card))) (entriesOf g (sec (now card))) ⌝ }
-    ensures { λ r. ⌜ r ≤ 256 ⌝ }
-{
-    let mut n = 0;
+    let mut w = Walk { end: 0, sum: 0 };
     let mut j = 0;
     while j < 4 * (g.d as usize) {
-        n = taken_in(card, g, v, order, n, j);
+        let r = run_at(card, g, v, j);
+        w = card_order::step(w, r);
         j += 1;
     }
-    n
-}
-
-// The sectors of the runs of the first n entries of an order, as far as each that has sectors starts where the one before ends or past it: so many
-// sectors at least are held.
-fn in_turn(card: &[u8], g: Geo, v: View, order: &[u8; 256], n: usize) -> u32
-    requires { ⌜ LaidOut g (now card) × ((n ≤ 256) × RunsOk g (tableIn g v (sec (now card))) (entriesOf g (sec (now card)))) ⌝ }
-    ensures { λ r. ⌜ r ≤ heldBelow (filesOf (tableIn g v (sec (now (card .entry)))) (entriesOf g (sec (now (card .entry))))) (g .s) ⌝ }
-{
-    let mut end = 0;
-    let mut sum = 0;
-    let mut k = 0;
-    while k < n {
-        let r = run_in(card, g, v, order[k]);
-        k += 1;
-        if r.sectors == 0 {
-            continue;
-        }
-        if r.start.0 < end {
-            return sum;
-        }
-        end = r.start.0 + r.sectors;
-        sum += r.sectors;
-    }
-    sum
+    w
 }
 
 // Whether no two shown runs meet. Runs that lie one after another, in the order of their entries or of their starts, and have all sectors that the
-// files have, do not; others are compared two by two.
-fn runs_apart(card: &[u8], g: Geo, v: View, sectors: u32) -> bool
-    requires { ⌜ LaidOut g (now card) × (RunsOk g (tableIn g v (sec (now card))) (entriesOf g (sec (now card))) × (sectors ≡ sectorsOf (filesOf (tableIn g v (sec (now card))) (entriesOf g (sec (now card)))))) ⌝ }
+// files have, do not; others are compared two by two. Two rounds take all starts.
+fn runs_apart(card: &[u8], g: Geo, v: View, sectors: u32, own: Walk, order: &mut [u8; 128]) -> bool
+    requires { ⌜ LaidOut g (now card) × (RunsOk g (tableIn g v (sec (now card))) (entriesOf g (sec (now card))) × ((sectors ≡ sectorsOf (filesOf (tableIn g v (sec (now card))) (entriesOf g (sec (now card))))) × Walked g (filesOf (tableIn g v (sec (now card))) (entriesOf g (sec (now card)))) own)) ⌝ }
     ensures { λ r. ⌜ r ≡ pairwise (partedIn (tableIn g v (sec (now (card .entry))))) (entriesOf g (sec (now (card .entry)))) ⌝ }
 {
-    let mut order = [0u8; 256];
-    by_entry(&mut order);
-    let own = in_turn(card, g, v, &order, 256);
-    if own == sectors {
+    if own.sum == sectors {
         return true;
     }
-    let n = by_start(card, g, v, &mut order);
-    let seen = in_turn(card, g, v, &order, n);
-    if seen == sectors {
+    let one = card_order::round(card, g, v, order, Walk { end: 0, sum: 0 });
+    if one.sum == sectors {
+        return true;
+    }
+    let two = card_order::round(card, g, v, order, one);
+    if two.sum == sectors {
         return true;
     }
     pairs_apart(card, g, v)
 }
 
 // Whether the pages that a view shows have set exactly the bits below F, from S up, and of the sectors of the shown files, each in one file; for
-// runs that are well formed.
-pub fn pages_ok(card: &[u8], g: Geo, v: View) -> bool
+// runs that are well formed. What the scratch holds is of no use before or after.
+pub fn pages_ok(card: &[u8], g: Geo, v: View, scratch: &mut [u8; 128]) -> bool
     requires { ⌜ LaidOut g (now card) × (PairIn g (now card) × RunsOk g (tableIn g v (sec (now card))) (entriesOf g (sec (now card)))) ⌝ }
     ensures { λ r. ⌜ r ≡ pageOk g (cover (filesOf (tableIn g v (sec (now (card .entry)))) (entriesOf g (sec (now (card .entry)))))) (pageIn g (tableIn g v (sec (now (card .entry)))) (sec (now (card .entry)))) ⌝ }
 {
@@ -264,7 +171,8 @@ pub fn pages_ok(card: &[u8], g: Geo, v: View) -> bool
     let high = held(card, g, v, g.s, bits - g.s);
     let set = runs_set(card, g, v);
     let sectors = sectors_in(card, g, v);
-    let apart = runs_apart(card, g, v, sectors);
+    let own = by_entry(card, g, v);
+    let apart = runs_apart(card, g, v, sectors, own, scratch);
     let ones = bits - card_files::clear_in(card, g, v);
     let count = fixed_bits(g, bits) + sectors;
     low & high & set & apart & (ones == count)

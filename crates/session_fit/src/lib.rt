@@ -29,8 +29,9 @@ fn views_fit(s: Opened, work: &[u8]) -> bool
     let g = s.geo;
     let p = session::present_view(s);
     let k = counts::as_is(g);
-    let present = card_sound::view_ok(work, g, p, s.c.0);
-    let cut = card_sound::view_ok(work, g, k, 128 * g.t);
+    let mut scratch = [0u8; 128];
+    let present = card_sound::view_ok(work, g, p, s.c.0, &mut scratch);
+    let cut = card_sound::view_ok(work, g, k, 128 * g.t, &mut scratch);
     let names = directory_rules::names_ok(work, g, p, k);
     present & cut & names
 }

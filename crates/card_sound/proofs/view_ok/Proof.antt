@@ -39,10 +39,10 @@ returns-2 c = view-entries _ _ _ _ (c .before .before .before .index-ok .ensures
 
 pages-ok-requires : tie.Need-pages-ok-requires
 pages-ok-requires c κs =
-    (c .before .before .before .before .before .before .before .pre, (view-pair _ _ _ _ (c .before .before .before .index-ok .ensures) (c .before .before .if1 .left), view-runs _ _ _ _ (c .before .entries-ok .ensures) (c .if2 .left)))
+    (c .before .before .before .before .before .before .before .before .pre, (view-pair _ _ _ _ (c .before .before .before .before .index-ok .ensures) (c .before .before .before .if1 .left), view-runs _ _ _ _ (c .before .before .entries-ok .ensures) (c .before .if2 .left)))
 
 returns-3 : tie.Need-returns-3
-returns-3 c = view-page _ _ _ _ (c .before .before .before .before .index-ok .ensures) (c .before .before .before .if1 .left) (c .before .before .entries-ok .ensures) (c .before .if2 .left) (c .pages-ok .ensures)
+returns-3 c = view-page _ _ _ _ (c .before .before .before .before .before .index-ok .ensures) (c .before .before .before .before .if1 .left) (c .before .before .before .entries-ok .ensures) (c .before .before .if2 .left) (c .pages-ok .ensures)
 
 pub view-ok-spec : {M : Type 1} → statement M
 view-ok-spec =
