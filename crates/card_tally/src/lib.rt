@@ -22,6 +22,13 @@ use counts::Geo;
 use counts::View;
 use entries::Run;
 
+// What one walk over the shown runs finds: whether their bits are set, their sectors, and the walk over those that lie one after another.
+struct Tally {
+    set: bool,
+    sectors: u32,
+    own: Walk,
+}
+
 // How many of n bits lie below F or from S up.
 fn fixed_bits(g: Geo, n: u32) -> u32
     requires { ⌜ InLimits g × (g .s ≤ n) ⌝ }
@@ -48,36 +55,23 @@ fn held(card: &[u8], g: Geo, v: View, a: u32, k: u32) -> bool
     apages_ones::run_set(&card[at..end], (a % 4096) as usize, k as usize)
 }
 
-// The sectors of all files that a view shows.
-fn sectors_in(card: &[u8], g: Geo, v: View) -> u32
-    requires { ⌜ LaidOut g (now card) × RunsOk g (tableIn g v (sec (now card))) (entriesOf g (sec (now card))) ⌝ }
-    ensures { λ r. ⌜ (r ≡ sectorsOf (filesOf (tableIn g v (sec (now (card .entry)))) (entriesOf g (sec (now (card .entry)))))) × (r ≤ 16777216) ⌝ }
-{
-    let mut sum: u32 = 0;
-    let mut j = 0;
-    while j < 4 * (g.d as usize) {
-        let r = run_at(card, g, v, j);
-        sum += r.sectors;
-        j += 1;
-    }
-    sum
-}
-
-// Whether the bits of every shown run are set.
-fn runs_set(card: &[u8], g: Geo, v: View) -> bool
+// One walk over the shown runs: whether their bits are set, their sectors, and how far they lie one after another in the order of their entries.
+fn tally_of(card: &[u8], g: Geo, v: View) -> Tally
     requires { ⌜ LaidOut g (now card) × (PairIn g (now card) × RunsOk g (tableIn g v (sec (now card))) (entriesOf g (sec (now card)))) ⌝ }
-    ensures { λ r. ⌜ r ≡ every (heldBy (tableIn g v (sec (now (card .entry)))) (pageIn g (tableIn g v (sec (now (card .entry)))) (sec (now (card .entry))))) (entriesOf g (sec (now (card .entry)))) ⌝ }
+    ensures { λ r. ⌜ (r .set ≡ every (heldBy (tableIn g v (sec (now (card .entry)))) (pageIn g (tableIn g v (sec (now (card .entry)))) (sec (now (card .entry))))) (entriesOf g (sec (now (card .entry))))) × ((r .sectors ≡ sectorsOf (filesOf (tableIn g v (sec (now (card .entry)))) (entriesOf g (sec (now (card .entry)))))) × ((r .sectors ≤ 16777216) × Walked g (filesOf (tableIn g v (sec (now (card .entry)))) (entriesOf g (sec (now (card .entry))))) (r .own))) ⌝ }
 {
+    let mut set = true;
+    let mut sectors: u32 = 0;
+    let mut own = Walk { end: 0, sum: 0 };
     let mut j = 0;
     while j < 4 * (g.d as usize) {
         let r = run_at(card, g, v, j);
-        let ok = held(card, g, v, r.start.0, r.sectors);
-        if !ok {
-            return false;
-        }
+        set = set & held(card, g, v, r.start.0, r.sectors);
+        sectors += r.sectors;
+        own = card_order::step(own, r);
         j += 1;
     }
-    true
+    Tally { set, sectors, own }
 }
 
 // Whether a run meets none of those that the entries from i on show.
@@ -122,23 +116,6 @@ fn pairs_apart(card: &[u8], g: Geo, v: View) -> bool
     true
 }
 
-// ---- the runs one after another
-
-// The walk over the runs in the order of their entries.
-fn by_entry(card: &[u8], g: Geo, v: View) -> Walk
-    requires { ⌜ LaidOut g (now card) × RunsOk g (tableIn g v (sec (now card))) (entriesOf g (sec (now card))) ⌝ }
-    ensures { λ r. ⌜ Walked g (filesOf (tableIn g v (sec (now (card .entry)))) (entriesOf g (sec (now (card .entry))))) r ⌝ }
-{
-    let mut w = Walk { end: 0, sum: 0 };
-    let mut j = 0;
-    while j < 4 * (g.d as usize) {
-        let r = run_at(card, g, v, j);
-        w = card_order::step(w, r);
-        j += 1;
-    }
-    w
-}
-
 // Whether no two shown runs meet. Runs that lie one after another, in the order of their entries or of their starts, and have all sectors that the
 // files have, do not; others are compared two by two. Two rounds take all starts.
 fn runs_apart(card: &[u8], g: Geo, v: View, sectors: u32, own: Walk, order: &mut [u8; 128]) -> bool
@@ -169,10 +146,10 @@ pub fn pages_ok(card: &[u8], g: Geo, v: View, scratch: &mut [u8; 128]) -> bool
     let first = counts::data_first(g);
     let low = held(card, g, v, 0, first);
     let high = held(card, g, v, g.s, bits - g.s);
-    let set = runs_set(card, g, v);
-    let sectors = sectors_in(card, g, v);
-    let own = by_entry(card, g, v);
-    let apart = runs_apart(card, g, v, sectors, own, scratch);
+    let t = tally_of(card, g, v);
+    let set = t.set;
+    let sectors = t.sectors;
+    let apart = runs_apart(card, g, v, sectors, t.own, scratch);
     let ones = bits - card_files::clear_in(card, g, v);
     let count = fixed_bits(g, bits) + sectors;
     low & high & set & apart & (ones == count)
