@@ -18,10 +18,10 @@ use card::success;
 use card_sound::shape_ok;
 use card_sound::sound;
 use sectors::Sector;
+use sectors::copy_sector;
 use session::Session;
 use session_unfit::unfit_on;
 use store::Outcome;
-use store_mounting::land_in;
 use store_mounting::mount_in;
 use store_syncing::sync_in;
 use store_syncing::unmount_in;
@@ -84,7 +84,7 @@ pub fn land_fitting(session: Session, card: &mut [u8], work: &[u8], i: Sector) -
     if s.geo.s <= i.0 {
         return refusal(11);
     }
-    land_in(card, work, i);
+    copy_sector(card, work, i);
     success(0)
 }
 

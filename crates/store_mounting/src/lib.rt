@@ -1,11 +1,11 @@
-// The one write of mount, land, and the sectors that they and sync write.
+// The one write of mount, and the sectors that it and sync write.
 ghost use mathlib.Core.Path.{_≡_};
 ghost use mathlib.Core.Bool.{false};
 ghost use Prim.Native.Nat.{_+_, _*_, _≤_, _<_};
 ghost use lib.ListN.{length, take};
 ghost use Rattle.words.specs.Lists.{splice};
 ghost use Rattle.words.specs.Bytes.{wordBytes};
-ghost use Rattle.sectors.specs.Sectors.{sec, setSec, applySteps, applyStep};
+ghost use Rattle.sectors.specs.Sectors.{sec, applySteps, applyStep};
 ghost use Rattle.store.specs.Steps.{setCount, setWord, mountSteps};
 ghost use Rattle.store.specs.Mount.{openedFrom, mountDone};
 ghost use Rattle.store.specs.Inner.{CanMount};
@@ -97,16 +97,4 @@ pub fn mount_in(card: &mut [u8], work: &mut [u8]) -> Opened
     mount_steps(card, 2);
     words::fill(work, card);
     s
-}
-
-// ---- land
-
-// Sector i of the working image goes to the card.
-pub fn land_in(card: &mut [u8], work: &[u8], i: Sector)
-    requires { ⌜ (512 * i .0 + 512 ≤ length (now card)) × (512 * i .0 + 512 ≤ length (now work)) ⌝ }
-    ensures { λ _. ⌜ now (card .exit) ≡ setSec (now (card .entry)) (i .0) (sec (now (work .entry)) (i .0)) ⌝ }
-{
-    let at = 512 * (i.0 as usize);
-    let end = at + 512;
-    words::fill(&mut card[at..end], &work[at..end])
 }

@@ -38,8 +38,8 @@ refusal-requires-3 c κs = search needs
 returns-3 : tie.Need-returns-3
 returns-3 c = land-11 _ _ _ _ (c .before .before .before .before .before .before .before .session .given .1) (c .before .before .before .before .if1 .left) (open-fits-on _ _ (c .before .before .before .before .before .before .before .session .given .1) (c .before .before .before .before .before .before .before .before .before .before .before .pre) (c .before .before .before .before .if1 .left)) (c .before .if2 .taken) (c .refusal3 .ensures)
 
-land-in-requires : tie.Need-land-in-requires
-land-in-requires c κs = let e = can-sync (c .before .before .before .before .before .before .before .session .given .0 .0) (now (c .before .before .before .before .before .before .before .before .before .before .before .args .card)) (now (c .before .before .before .before .before .before .before .before .before .before .before .args .work)) (c .before .before .before .before .if1 .left) (open-fits-on _ _ (c .before .before .before .before .before .before .before .session .given .1) (c .before .before .before .before .before .before .before .before .before .before .before .pre) (c .before .before .before .before .if1 .left)) in (omega (arith, e .cardSize, c .before .if2 .left), omega (arith, e .workSize, c .before .if2 .left))
+copy-sector-requires : tie.Need-copy-sector-requires
+copy-sector-requires c κs = let e = can-sync (c .before .before .before .before .before .before .before .session .given .0 .0) (now (c .before .before .before .before .before .before .before .before .before .before .before .args .card)) (now (c .before .before .before .before .before .before .before .before .before .before .before .args .work)) (c .before .before .before .before .if1 .left) (open-fits-on _ _ (c .before .before .before .before .before .before .before .session .given .1) (c .before .before .before .before .before .before .before .before .before .before .before .pre) (c .before .before .before .before .if1 .left)) in (omega (arith, e .cardSize, c .before .if2 .left), omega (arith, e .workSize, c .before .if2 .left))
 
 success-requires : tie.Need-success-requires
 success-requires c κs = search needs
@@ -48,7 +48,7 @@ same-length : tie.Need-same-length
 same-length c = search needs
 
 returns-4 : tie.Need-returns-4
-returns-4 c = land-done _ _ _ _ (c .before .before .before .before .before .before .before .before .before .before .before .session .given .1) (c .before .before .before .before .before .before .before .before .if1 .left) (open-fits-on _ _ (c .before .before .before .before .before .before .before .before .before .before .before .session .given .1) (c .before .before .before .before .before .before .before .before .before .before .before .before .before .before .before .pre) (c .before .before .before .before .before .before .before .before .if1 .left)) (c .before .before .before .before .before .if2 .left) (c .success .ensures) (c .before .before .before .land-in .ensures)
+returns-4 c = land-done _ _ _ _ (c .before .before .before .before .before .before .before .before .before .before .before .session .given .1) (c .before .before .before .before .before .before .before .before .if1 .left) (open-fits-on _ _ (c .before .before .before .before .before .before .before .before .before .before .before .session .given .1) (c .before .before .before .before .before .before .before .before .before .before .before .before .before .before .before .pre) (c .before .before .before .before .before .before .before .before .if1 .left)) (c .before .before .before .before .before .if2 .left) (c .success .ensures) (c .before .before .before .copy-sector .ensures)
 
 pub land-fitting-spec : {M : Type 1} → statement M
-land-fitting-spec = tie.close (tie.spec enum-known-session enum-told refusal-requires returns cast-if1 mul-if1 refusal-requires-2 returns-2 refusal-requires-3 returns-3 land-in-requires success-requires same-length returns-4)
+land-fitting-spec = tie.close (tie.spec enum-known-session enum-told refusal-requires returns cast-if1 mul-if1 refusal-requires-2 returns-2 refusal-requires-3 returns-3 copy-sector-requires success-requires same-length returns-4)
