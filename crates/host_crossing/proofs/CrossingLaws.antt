@@ -6,10 +6,9 @@ use mathlib.Core.Logic.{_≢_}
 use Prim.Native.Nat.{ℕ, _<_, _≤_}
 use borrow.Author.Tests.{lt-ltb, le-ltb, eq-eqb, ne-eqb}
 use lib.Dec.{eqb}
-use lib.ListN.{getD, replicate}
+use lib.ListN.{replicate}
 use Rattle.words.specs.Lists.{over, splice}
-use Rattle.words.specs.Bytes.{join, wordBytes}
-use Rattle.words.proofs.WordLaws.{wordAt-getD}
+use Rattle.words.specs.Bytes.{wordAt, wordBytes}
 use Rattle.counts.specs.declared.Geo.{Geo}
 use Rattle.card.specs.declared.Answer.{Answer}
 use Rattle.card.specs.declared.Report.{Report}
@@ -47,15 +46,10 @@ pub session-open : (state : ℕ) (g : Geo) (c t : ℕ) {o : Opened} → state �
 unfolding sessionOf
 session-open state g c t h e = rw (ne-eqb state 0 h, e)
 
--- the word of the four bytes from i on
-abbrev wordFrom : List ℕ → ℕ → ℕ → ℕ → ℕ → ℕ
-wordFrom b i j k l = join (getD b i 0) (getD b j 0) (getD b k 0) (getD b l 0)
-
-pub decoded-words : (b : List ℕ) {state s t d c x : ℕ} {r : Session} → state ≡ wordFrom b 0 1 2 3 → s ≡ wordFrom b 4 5 6 7 → t ≡ wordFrom b 8 9 10 11
-    → d ≡ wordFrom b 12 13 14 15 → c ≡ wordFrom b 16 17 18 19 → x ≡ wordFrom b 20 21 22 23 → r ≡ sessionOf state (geoWith s t d) c x → r ≡ decoded b
+pub decoded-words : (b : List ℕ) {state s t d c x : ℕ} {r : Session} → state ≡ wordAt b 0 → s ≡ wordAt b 4 → t ≡ wordAt b 8
+    → d ≡ wordAt b 12 → c ≡ wordAt b 16 → x ≡ wordAt b 20 → r ≡ sessionOf state (geoWith s t d) c x → r ≡ decoded b
 unfolding decoded
-decoded-words b h₀ h₁ h₂ h₃ h₄ h₅ e =
-    e ∙ rw (wordAt-getD b 0, wordAt-getD b 4, wordAt-getD b 8, wordAt-getD b 12, wordAt-getD b 16, wordAt-getD b 20, h₀, h₁, h₂, h₃, h₄, h₅)
+decoded-words b h₀ h₁ h₂ h₃ h₄ h₅ e = e ∙ rw (h₀, h₁, h₂, h₃, h₄, h₅)
 
 -- ---- bytes from a session and a report
 

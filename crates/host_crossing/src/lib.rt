@@ -1,7 +1,5 @@
 // What crosses to a host: a session as 24 bytes, what reading a card gives as 16, and what free gives as 8.
 ghost use mathlib.Core.Path.{_≡_};
-ghost use Prim.Native.Nat.{_+_, _*_};
-ghost use Rattle.words.specs.Bytes.{join};
 ghost use Rattle.host_crossing.specs.Crossing.{openedOf, sessionOf, decoded, stateOf, openedBytes, encoded, reportBytes, roomBytes, roomed, keptBy};
 use card::Answer;
 use card::Report;
@@ -13,36 +11,29 @@ use session::Session;
 use store::Outcome;
 use store::Room;
 
-// The word of four bytes, least first.
-fn word(b0: u8, b1: u8, b2: u8, b3: u8) -> u32
-    ensures { λ r. ⌜ r ≡ join b0 b1 b2 b3 ⌝ }
-{
-    (b0 as u32) + 256 * (b1 as u32) + 65536 * (b2 as u32) + 16777216 * (b3 as u32)
-}
-
 // An open session; one with a state above 2 never fits.
-fn opened_of(state: u32, geo: Geo, c: u32, t: u32) -> Opened
-    ensures { λ r. ⌜ r ≡ openedOf state geo c t ⌝ }
+fn opened_of(state: u32, geo: Geo, c: CrashCount, t: TxCount) -> Opened
+    ensures { λ r. ⌜ r ≡ openedOf state geo (c .0) (t .0) ⌝ }
 {
     if 2 < state {
         return Opened {
             geo,
-            c: CrashCount(c),
+            c,
             t: TxCount(0),
             worn: false,
         };
     }
     Opened {
         geo,
-        c: CrashCount(c),
-        t: TxCount(t),
+        c,
+        t,
         worn: state == 2,
     }
 }
 
 // The session of six words.
-fn session_of(state: u32, geo: Geo, c: u32, t: u32) -> Session
-    ensures { λ r. ⌜ r ≡ sessionOf state geo c t ⌝ }
+fn session_of(state: u32, geo: Geo, c: CrashCount, t: TxCount) -> Session
+    ensures { λ r. ⌜ r ≡ sessionOf state geo (c .0) (t .0) ⌝ }
 {
     if state == 0 {
         return Session::Closed;
@@ -55,14 +46,14 @@ fn session_of(state: u32, geo: Geo, c: u32, t: u32) -> Session
 pub fn decoded(b: [u8; 24]) -> Session
     ensures { λ r. ⌜ r ≡ decoded b ⌝ }
 {
-    let state = word(b[0], b[1], b[2], b[3]);
-    let s = word(b[4], b[5], b[6], b[7]);
-    let t = word(b[8], b[9], b[10], b[11]);
-    let d = word(b[12], b[13], b[14], b[15]);
-    let c = word(b[16], b[17], b[18], b[19]);
-    let tx = word(b[20], b[21], b[22], b[23]);
+    let state = words::word_at(&b, 0);
+    let s = words::word_at(&b, 4);
+    let t = words::word_at(&b, 8);
+    let d = words::word_at(&b, 12);
+    let c = words::word_at(&b, 16);
+    let tx = words::word_at(&b, 20);
     let geo = Geo { s, t, d };
-    session_of(state, geo, c, tx)
+    session_of(state, geo, CrashCount(c), TxCount(tx))
 }
 
 // 2 where the session is worn, else 1.
