@@ -14,9 +14,10 @@ ghost use Rattle.apages.specs.Bits.{clearBits};
 ghost use Rattle.apages.specs.Inner.{PairIn};
 ghost use Rattle.apages.specs.Index.{groupOf, indexIn, pageIn, shownPage};
 ghost use Rattle.card.specs.Files.{filesOf, runOf, runAt, contentOf, noLine};
-ghost use Rattle.card.specs.Inner.{RunsOk, shows, lineOf, IsGot, getAt, getIn};
+ghost use Rattle.card.specs.Inner.{RunsOk, shows, lineOf, IsGot, getAt, getIn, noLined};
 use card::Answer;
 use card::Line;
+use card::Lined;
 use card::refusal;
 use card::success;
 use counts::Geo;
@@ -114,7 +115,7 @@ fn line_at(card: &[u8], g: Geo, v: View, j: usize) -> Line
 }
 
 // A line where there is no file.
-pub fn no_line() -> Line
+fn no_line() -> Line
     ensures { λ r. ⌜ r ≡ noLine ⌝ }
 {
     let name = [0u8; 32];
@@ -124,6 +125,15 @@ pub fn no_line() -> Line
         bytes: 0,
     };
     Line { size: 0, name, run }
+}
+
+// A refusal: its number, and no line.
+pub fn no_lined(k: u32) -> Lined
+    ensures { λ r. ⌜ r ≡ noLined k ⌝ }
+{
+    let answer = refusal(k);
+    let line = no_line();
+    Lined { answer, line }
 }
 
 // The line at a position, in entry order.

@@ -3,7 +3,7 @@ ghost use mathlib.Core.Path.{_≡_};
 ghost use mathlib.Core.Bool.{true};
 ghost use Rattle.card.specs.Sound.{shapeOk, sound};
 ghost use Rattle.card.specs.Reading.{read, readLine, readGet};
-ghost use Rattle.card.specs.Inner.{noReport, noLined};
+ghost use Rattle.card.specs.Inner.{noReport};
 use card::Answer;
 use card::Lined;
 use card::Report;
@@ -13,7 +13,7 @@ use card_files::clear_in;
 use card_files::file_count;
 use card_files::get_in;
 use card_files::line_in;
-use card_files::no_line;
+use card_files::no_lined;
 use card_files::one_if;
 use card_sound::shape_ok;
 use card_sound::sound;
@@ -29,15 +29,6 @@ fn no_report(k: u32) -> Report
         files: 0,
         free: 0,
     }
-}
-
-// A refusal: its number, and no line.
-fn no_lined(k: u32) -> Lined
-    ensures { λ r. ⌜ r ≡ noLined k ⌝ }
-{
-    let answer = refusal(k);
-    let line = no_line();
-    Lined { answer, line }
 }
 
 // Reads a card that is sound.

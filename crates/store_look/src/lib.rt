@@ -3,8 +3,6 @@
 // A call is two functions. The inner one, named `_fitting`, makes every test but 2 and requires instead that an open session fits; the public
 // one is that test and then the inner one.
 ghost use mathlib.Core.Path.{_≡_};
-ghost use Rattle.card.specs.Plan.{refused};
-ghost use Rattle.card.specs.Files.{noLine};
 ghost use Rattle.store.specs.Look.{get, line, noFigures, free};
 ghost use Rattle.store.specs.Inner.{FitOf};
 use card::Answer;
@@ -14,21 +12,12 @@ use card::success;
 use card_files::file_count;
 use card_files::get_in;
 use card_files::line_in;
-use card_files::no_line;
+use card_files::no_lined;
 use card_files::one_if;
 use session::Session;
 use session_unfit::unfit;
 use store::Room;
 use store_figures::figures_in;
-
-// No line, and the number of a refusal.
-fn unlined(k: u32) -> Lined
-    ensures { λ r. ⌜ r ≡ record { answer = refused k; line = noLine } ⌝ }
-{
-    let answer = refusal(k);
-    let line = no_line();
-    Lined { answer, line }
-}
 
 // No figures, and the number of a refusal.
 fn no_figures(k: u32) -> Room
@@ -77,7 +66,7 @@ pub fn line_fitting(session: Session, work: &[u8], i: u32) -> Lined
     ensures { λ r. ⌜ r ≡ line session (now (work .entry)) i ⌝ }
 {
     let Session::Open(s) = session else {
-        return unlined(4);
+        return no_lined(4);
     };
     let g = s.geo;
     let present = session::present_view(s);
@@ -94,7 +83,7 @@ pub fn line(session: Session, work: &[u8], i: u32) -> Lined
 {
     let unfit = unfit(session, work);
     if unfit {
-        return unlined(2);
+        return no_lined(2);
     }
     line_fitting(session, work, i)
 }

@@ -5,6 +5,7 @@ use Rattle.store.proofs.Fitting.{open-fits}
 use Rattle.store.proofs.ViewLaws.{fit-laid}
 use Rattle.store.proofs.LookLaws.{line-done}
 use Rattle.store.specs.Look.{line}
+use Rattle.card.specs.Inner.{noLined}
 use Rattle.store_look.proofs.line_fitting.Statement.{statement}
 use Rattle.store_look.proofs.line_fitting.Tie as tie
 
@@ -14,12 +15,12 @@ enum-known-session c = search needs
 enum-told : tie.Need-enum-told
 enum-told c = search needs
 
-unlined-requires : tie.Need-unlined-requires
-unlined-requires c κs = search needs
+no-lined-requires : tie.Need-no-lined-requires
+no-lined-requires c κs = search needs
 
 returns : tie.Need-returns
-unfolding line
-returns c = c .unlined .ensures ∙ rw (c .before .enum-told .given .1)
+unfolding line noLined
+returns c = c .no-lined .ensures ∙ rw (c .before .enum-told .given .1)
 
 present-view-requires : tie.Need-present-view-requires
 present-view-requires c κs = let l = fit-laid _ _ (open-fits _ (c .before .before .session .given .1) (c .before .before .before .before .before .pre)) in search needs
@@ -40,4 +41,4 @@ returns-2 : tie.Need-returns-2
 returns-2 c = line-done _ _ (c .before .before .before .before .before .before .before .session .given .1) _ (open-fits _ (c .before .before .before .before .before .before .before .session .given .1) (c .before .before .before .before .before .before .before .before .before .before .pre)) (c .before .before .before .before .present-view .ensures) (c .before .before .before .file-count .ensures) (c .before .before .line-in .ensures) (c .before .one-if .ensures .0) (c .success .ensures)
 
 pub line-fitting-spec : {M : Type 1} → statement M
-line-fitting-spec = tie.close (tie.spec enum-known-session enum-told unlined-requires returns present-view-requires file-count-requires line-in-requires one-if-requires success-requires returns-2)
+line-fitting-spec = tie.close (tie.spec enum-known-session enum-told no-lined-requires returns present-view-requires file-count-requires line-in-requires one-if-requires success-requires returns-2)

@@ -1,8 +1,8 @@
 -- The fields, one by one. Assumes nothing.
 use borrow.Author.Needs.{needs}
 use Rattle.card.specs.Inner.{noLined}
-use Rattle.card_read.proofs.no_lined.Statement.{statement}
-use Rattle.card_read.proofs.no_lined.Tie as tie
+use Rattle.card_files.proofs.no_lined.Statement.{statement}
+use Rattle.card_files.proofs.no_lined.Tie as tie
 
 refusal-requires : tie.Need-refusal-requires
 refusal-requires c κs = search needs
