@@ -51,7 +51,7 @@ pub fn put_group(s: &mut [u8], at: usize, x: Index)
 }
 
 // "Pair p is T + 2 + 2p and T + 3 + 2p": A and B are the two, in either order.
-pub fn pair_ok(g: Geo, p: u32, a: Sector, b: Sector) -> bool
+fn pair_ok(g: Geo, p: u32, a: Sector, b: Sector) -> bool
     requires { ⌜ InLimits g × (p < gP g) ⌝ }
     ensures { λ r. ⌜ r ≡ pairOk g p (a .0) (b .0) ⌝ }
 {

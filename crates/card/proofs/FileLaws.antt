@@ -18,7 +18,7 @@ use Rattle.entries.specs.Entries.{shown, entryOk}
 use Rattle.entries.proofs.PassLaws.{passes, RunIs, shown-run}
 use Rattle.card.specs.declared.Line.{Line}
 use Rattle.card.specs.Files.{FileHolds, consFile, filesOf, cover}
-use Rattle.card.proofs.PieceLaws.{holds-count, holds-run, count-run, in-run, out-run}
+use Rattle.card.proofs.PieceLaws.{holds-count, holds-run, count-run, out-run}
 
 -- ---- files of a list of entries
 

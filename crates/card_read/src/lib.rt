@@ -32,7 +32,7 @@ fn no_report(k: u32) -> Report
 }
 
 // Reads a card that is sound.
-pub fn read_in(card: &[u8]) -> Report
+fn read_in(card: &[u8]) -> Report
     requires { ⌜ (shapeOk (now card) ≡ true) × (sound (now card) ≡ true) ⌝ }
     ensures { λ r. ⌜ r ≡ read (now (card .entry)) ⌝ }
 {
@@ -94,7 +94,7 @@ pub fn read_line(card: &[u8], i: u32) -> Lined
 }
 
 // Gets a file of a card that is sound.
-pub fn read_get_in(card: &[u8], name: &[u8], out: &mut [u8]) -> Answer
+fn read_get_in(card: &[u8], name: &[u8], out: &mut [u8]) -> Answer
     requires { ⌜ (shapeOk (now card) ≡ true) × (sound (now card) ≡ true) ⌝ }
     ensures { λ r. ⌜ (r ≡ readGet (now (card .entry)) (now (name .entry)) (now (out .entry)) .answer)
         × (now (out .exit) ≡ readGet (now (card .entry)) (now (name .entry)) (now (out .entry)) .out) ⌝ }

@@ -70,7 +70,7 @@ pub fn dead_below(card: &[u8], g: Geo, v: View, bound: u32, s: Stamp) -> bool
 }
 
 // Whether a stamp is the session's own.
-pub fn same_stamp(s: Stamp, own: Stamp) -> bool
+fn same_stamp(s: Stamp, own: Stamp) -> bool
     ensures { λ r. ⌜ r ≡ sameStamp s own ⌝ }
 {
     (s.cc.0 == own.cc.0) & (s.txc.0 == own.txc.0)

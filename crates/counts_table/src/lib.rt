@@ -72,7 +72,7 @@ pub fn zero_past(card: &[u8], g: Geo, c: CrashCount) -> bool
 }
 
 // Whether table word c, if there is one, is at most 2,147,483,646.
-pub fn word_below(card: &[u8], g: Geo, c: CrashCount) -> bool
+fn word_below(card: &[u8], g: Geo, c: CrashCount) -> bool
     requires { ⌜ LaidOut g (now card) ⌝ }
     ensures { λ r. ⌜ r ≡ (leb (gN g) (c .0) || ltb (getD (tableOf g (sec (now (card .entry)))) (c .0) 0) maxTx) ⌝ }
 {

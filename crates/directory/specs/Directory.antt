@@ -1,7 +1,7 @@
 -- "directory, four entries a sector": the entries in order beside the list of their places. Assumes nothing.
 use mathlib.Core.Bool.{Bool, not, _&&_, _||_}
 use mathlib.Core.List.{List, [], _∷_, _++_}
-use Prim.Native.Nat.{ℕ, zero, suc, _+_}
+use Prim.Native.Nat.{ℕ, zero, suc}
 use lib.ListN.{getD}
 use Rattle.words.specs.Lists.{part, setPart, eqList}
 use Rattle.sectors.specs.Sectors.{Cells, sec, setSec}

@@ -1,6 +1,6 @@
 // The directory: the entries in order, tests over all of them, and the entry that a call finds.
 ghost use mathlib.Core.Path.{_≡_};
-ghost use Prim.Native.Nat.{_+_, _*_, _<_};
+ghost use Prim.Native.Nat.{_*_, _<_};
 ghost use Rattle.counts.specs.Inner.{InLimits, LaidOut};
 ghost use Rattle.entries.specs.Entries.{entryBytes};
 ghost use Rattle.directory.specs.Directory.{spotOf, setEntry};

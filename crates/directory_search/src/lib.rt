@@ -1,6 +1,5 @@
 // Searches of the directory: the entry of a name, and the lowest that shows no file.
 ghost use mathlib.Core.Path.{_≡_};
-ghost use Prim.Native.Nat.{_+_, _*_, _<_};
 ghost use lib.ListN.{length};
 ghost use Rattle.words.specs.Lists.{firstAt};
 ghost use Rattle.sectors.specs.Sectors.{sec};
@@ -12,7 +11,7 @@ use counts::View;
 use words::Found;
 
 // Whether an entry shows, in either view, a file of that name.
-pub fn is_named(card: &[u8], g: Geo, v: View, w: View, name: &[u8], p: &[u8]) -> bool
+fn is_named(card: &[u8], g: Geo, v: View, w: View, name: &[u8], p: &[u8]) -> bool
     requires { ⌜ LaidOut g (now card) × (length (now p) ≡ 128) ⌝ }
     ensures { λ r. ⌜ r ≡ named (tableIn g v (sec (now (card .entry)))) (tableIn g w (sec (now (card .entry)))) (now (name .entry)) (now (p .entry)) ⌝ }
 {

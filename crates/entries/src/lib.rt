@@ -39,7 +39,7 @@ pub struct Entry {
 // ---- the codec
 
 // The version that 16 bytes are.
-pub fn version_of(v: &[u8]) -> Version
+fn version_of(v: &[u8]) -> Version
     requires { ⌜ length (now v) ≡ 16 ⌝ }
     ensures { λ r. ⌜ r ≡ versionOf (now (v .entry)) ⌝ }
 {
@@ -58,7 +58,7 @@ pub fn version_of(v: &[u8]) -> Version
 }
 
 // Stores the four words of a version from `at` on.
-pub fn put_version(s: &mut [u8], at: usize, v: Version)
+fn put_version(s: &mut [u8], at: usize, v: Version)
     requires { ⌜ at + 16 ≤ length (now s) ⌝ }
     ensures { λ _. ⌜ now (s .exit) ≡ splice (now (s .entry)) at (versionBytes v) ⌝ }
 {
@@ -90,7 +90,7 @@ pub fn name_at(s: &[u8], at: usize) -> [u8; 32]
 }
 
 // A name with zeros behind it.
-pub fn padded(name: &[u8]) -> [u8; 32]
+fn padded(name: &[u8]) -> [u8; 32]
     requires { ⌜ length (now name) ≤ 32 ⌝ }
     ensures { λ r. ⌜ r ≡ pad 32 (now (name .entry)) ⌝ }
 {
@@ -100,7 +100,7 @@ pub fn padded(name: &[u8]) -> [u8; 32]
 }
 
 // The entry that 128 bytes are.
-pub fn entry_of(p: &[u8]) -> Entry
+fn entry_of(p: &[u8]) -> Entry
     requires { ⌜ length (now p) ≡ 128 ⌝ }
     ensures { λ r. ⌜ r ≡ entryOf (now (p .entry)) ⌝ }
 {
@@ -148,7 +148,7 @@ pub fn fill_entry(p: &mut [u8], e: Entry)
 // ---- changing an entry
 
 // What is the old version after a change: if alive, the new version becomes the old one.
-pub fn becomes_old(st: Standing, new: Version, old: Version) -> Version
+fn becomes_old(st: Standing, new: Version, old: Version) -> Version
     ensures { λ r. ⌜ r ≡ becomesOld st new old ⌝ }
 {
     match st {

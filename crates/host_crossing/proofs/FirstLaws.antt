@@ -3,7 +3,7 @@ use mathlib.Core.Path.{_≡_, refl, sym, ap, _∙_}
 use mathlib.Core.Bool.{Bool, true, false, not, _&&_}
 use mathlib.Core.List.{List, []}
 use mathlib.Core.Logic.{_≢_}
-use Prim.Native.Nat.{ℕ, suc, _*_, _≤_, _<_}
+use Prim.Native.Nat.{ℕ, _*_, _≤_, _<_}
 use native.Mathlib.Omega.{arith}
 use borrow.Author.Tests.{eq-eqb, ne-eqb, eqb-true, lt-ltb, le-ltb}
 use lib.Dec.{eqb, ltb}
@@ -13,7 +13,7 @@ use Rattle.sectors.specs.Sectors.{sec, Step, applySteps}
 use Rattle.counts.specs.Geometry.{gN, geoOf, countOf}
 use Rattle.card.specs.declared.Answer.{Answer}
 use Rattle.card.specs.declared.Report.{Report}
-use Rattle.card.specs.Plan.{Plan, refuse, doIt, guard, ended, refused, done, Changed}
+use Rattle.card.specs.Plan.{Plan, refuse, doIt, guard, ended, refused, done}
 use Rattle.card.proofs.PlanLaws.{Num, no!, go!, guard-no, guard-yes, guard-inv}
 use Rattle.card.specs.Sound.{shapeOk, sound}
 use Rattle.card.specs.Reading.{readPlan, read}

@@ -104,7 +104,7 @@ pub fn report_bytes(r: Report) -> [u8; 16]
 }
 
 // The 8 bytes of free's two figures.
-pub fn room_bytes(r: Room) -> [u8; 8]
+fn room_bytes(r: Room) -> [u8; 8]
     ensures { λ b. ⌜ b ≡ roomBytes r ⌝ }
 {
     let mut b = [0u8; 8];

@@ -1,20 +1,19 @@
 -- The bounds on the writes of sync and unmount, proved of every history: the closer one, and from it that of document 02. Assumes nothing.
-use mathlib.Core.Path.{_≡_, refl, ap}
+use mathlib.Core.Path.{_≡_, refl}
 use mathlib.Core.Bool.{Bool, true, false}
 use mathlib.Core.List.{List}
 use Prim.Native.Nat.{ℕ, zero, suc, _+_, _≤_}
 use native.Mathlib.Omega.{arith}
 use native.Mathlib.Decide.{ℕ-discrete}
-use Rattle.words_sums.specs.Sums.{bit, total}
+use Rattle.words_sums.specs.Sums.{bit}
 use Rattle.words_sums.proofs.SumLaws.{total-zero, total-one, total-le}
 use Rattle.counts.specs.Geometry.{gP}
 use Rattle.card.specs.Plan.{refused}
-use Rattle.session.specs.declared.Opened.{Opened}
 use Rattle.session.specs.declared.Session.{Session}
 use Rattle.session.specs.declared.Session.the-variants.{Closed, Open}
 use Rattle.store.specs.Sync.{sync, unmount}
 use Rattle.promises_answers.specs.PlainList.{Item}
-use Rattle.promises_crash.specs.History.{Pending, World, Reach}
+use Rattle.promises_crash.specs.History.{Pending}
 use Rattle.promises_answers.proofs.RefusalsProved.{refusals}
 use Rattle.promises_crash.proofs.Inv.{InvOf, mk}
 use Rattle.promises_crash.proofs.Steps.{to-live}

@@ -1,25 +1,25 @@
 -- A history of host functions is a history of calls: call by call the bytes hold the session that the call gives. Assumes nothing.
-use mathlib.Core.Path.{_≡_, refl, sym, ap, _∙_, subst}
+use mathlib.Core.Path.{_≡_, refl, sym, _∙_, subst}
 use mathlib.Core.List.{List, []}
 use mathlib.Core.Logic.{_≢_, ⊎-elim, inl, inr}
-use Prim.Native.Nat.{ℕ, zero, suc, _≤_}
+use Prim.Native.Nat.{ℕ, zero, suc}
 use native.Mathlib.Omega.{arith}
-use lib.ListN.{length, take}
+use lib.ListN.{length}
 use Rattle.sectors.specs.Sectors.{Step}
 use Rattle.counts.specs.declared.Geo.{Geo}
 use Rattle.card.specs.Plan.{Changed}
 use Rattle.card.specs.Make.{make}
 use Rattle.session.specs.declared.Session.{Session}
 use Rattle.session.specs.declared.Session.the-variants.{Closed, Open}
-use Rattle.store.specs.Mount.{Ended, mount}
+use Rattle.store.specs.Mount.{Ended}
 use Rattle.store.specs.Sync.{land}
-use Rattle.host_crossing.specs.Crossing.{decoded, encoded, kept}
+use Rattle.host_crossing.specs.Crossing.{decoded, encoded}
 use Rattle.host_crossing.proofs.SessionBytes.{closed-back}
 use Rattle.host_crossing.proofs.HostCalls.{mount-crosses, sync-crosses, unmount-crosses}
-use Rattle.promises_answers.specs.PlainList.{Item, shownIn}
+use Rattle.promises_answers.specs.PlainList.{Item}
 use Rattle.promises_answers.specs.Refusals.{SameBoth}
 use Rattle.promises_answers.proofs.RefusalsProved.{refusals}
-use Rattle.promises_crash.specs.History.{Pending, play, allWritten, Left, World, Call, makeC, mountC, syncC, unmountC, putC, removeC, landC, getC, listC, freeC, afterCut, byNumber, endOpen, before, syncsBy, unmountsBy, stepsOf, edited, stepped, after, pendingIn, Reach, fresh, call, cut, cutIn}
+use Rattle.promises_crash.specs.History.{Pending, play, allWritten, Left, World, Call, makeC, mountC, syncC, unmountC, putC, removeC, landC, getC, listC, freeC, afterCut, byNumber, endOpen, before, edited, stepped, after, Reach, fresh, call, cut, cutIn}
 use Rattle.promises_crash.proofs.Inv.{mk}
 use Rattle.promises_crash.proofs.Demand.{demand-three}
 use Rattle.promises_crash.specs.HostRuns.{Held, left, Runs, made, ran, lost, lostIn, AsCalls, Kept}

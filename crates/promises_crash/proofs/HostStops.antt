@@ -1,7 +1,6 @@
 -- What the functions that stop inside a call leave on the card is what a cut there may leave, at every number of steps; and the promise of host functions, joined.
 -- Assumes nothing.
 use mathlib.Core.Path.{_≡_, refl, sym, ap, _∙_}
-use mathlib.Core.Bool.{not}
 use mathlib.Core.List.{List, []}
 use Prim.Native.Nat.{ℕ, zero, suc, _+_, _≤_}
 use native.Mathlib.Omega.{arith}
@@ -10,7 +9,7 @@ use lib.ListN.{length, take}
 use lib.Seq.{take-all, take-length, take-nil}
 use Rattle.sectors.specs.Sectors.{Step, applySteps, lean}
 use Rattle.sectors.proofs.Fewer.{lean-first, lean-reach}
-use Rattle.card.specs.Plan.{Plan, guard, doIt, ended, refused, done}
+use Rattle.card.specs.Plan.{Plan, ended, refused, done}
 use Rattle.card.proofs.PlanLaws.{Num, no!, go!, guard-num}
 use Rattle.session.specs.declared.Opened.{Opened}
 use Rattle.session.specs.declared.Session.{Session}
@@ -24,7 +23,7 @@ use Rattle.host_crossing.specs.Crossing.{decoded}
 use Rattle.host_crossing.specs.FirstSteps.{firstOf, mountFirst, syncFirst, unmountFirst}
 use Rattle.promises_crash.specs.History.{Pending, Left, World, Call, mountC, syncC, unmountC, afterCut, byNumber, endOpen, before, syncsBy, unmountsBy, stepsOf}
 use Rattle.promises_crash.proofs.Possible.{steps-possible}
-use Rattle.promises_crash.specs.HostRuns.{Held, Runs, AsCalls, Stops, HostPromise, HostHistories}
+use Rattle.promises_crash.specs.HostRuns.{Held, AsCalls, Stops, HostHistories}
 use Rattle.promises_crash.proofs.HostRunsProved.{as-calls, kept-so}
 
 -- ---- by the plan: its first steps on the card are those of the call, none where it is refused

@@ -17,7 +17,7 @@ use Rattle.store.specs.Edit.{putRun, putWork, putAt, removePlan, removeWork, re
 use Rattle.store.specs.Sync.{grown, syncDone, sync, unmountDone, unmount}
 use Rattle.store.proofs.Plans.{put-inv, put-num, remove-inv, remove-num, both-num, mount-num, sync-live}
 use Rattle.promises_answers.specs.PlainList.{Item, shownBy, shownIn}
-use Rattle.promises_crash.specs.History.{Pending, play, allWritten, World, afterCut, byNumber, endOpen, before, syncsBy, unmountsBy, stepsOf, edited, stepped, Call, makeC, mountC, syncC, unmountC, putC, removeC, landC, getC, listC, freeC, after, Reach, fresh, call, cut, cutIn}
+use Rattle.promises_crash.specs.History.{Pending, play, World, afterCut, byNumber, endOpen, before, syncsBy, unmountsBy, stepsOf, edited, stepped, Call, makeC, mountC, syncC, unmountC, putC, removeC, landC, getC, listC, freeC, after, Reach, fresh, call, cut, cutIn}
 use Rattle.promises_answers.proofs.Calls.{put-ready, remove-ready}
 use Rattle.promises_crash.proofs.Inv.{InvOf, Inv, mk}
 use Rattle.promises_crash.proofs.Steps.{to-live}

@@ -23,7 +23,6 @@ use Rattle.session.specs.declared.Session.{Session}
 use Rattle.session.specs.declared.Session.the-variants.{Open}
 use Rattle.session.specs.Fits.{fits}
 use Rattle.session.specs.FitMeans.{Fits}
-use Rattle.session.proofs.FitLaws.{fit-inv}
 use Rattle.store.specs.Edit.{put}
 use Rattle.store.specs.declared.Room.{Room}
 use Rattle.store.specs.Look.{list, free}

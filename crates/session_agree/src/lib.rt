@@ -1,6 +1,5 @@
 // Whether a session agrees with a working image in its sizes, its counts and its stamps.
 ghost use mathlib.Core.Path.{_≡_};
-ghost use mathlib.Core.Bool.{true};
 ghost use Prim.Native.Nat.{_≤_};
 ghost use lib.ListN.{length};
 ghost use Rattle.words.specs.Lists.{every};

@@ -1,6 +1,5 @@
 // The one write of mount, and the sectors that it and sync write.
 ghost use mathlib.Core.Path.{_≡_};
-ghost use mathlib.Core.Bool.{false};
 ghost use Prim.Native.Nat.{_+_, _*_, _≤_, _<_};
 ghost use lib.ListN.{length, take};
 ghost use Rattle.words.specs.Lists.{splice};
@@ -73,7 +72,7 @@ pub fn mount_steps(card: &mut [u8], k: u32)
 }
 
 // "The session has c = the old C and t = table word c, plus 1."
-pub fn opened_from(card: &[u8]) -> Opened
+fn opened_from(card: &[u8]) -> Opened
     requires { ⌜ CanMount (now card) ⌝ }
     ensures { λ r. ⌜ r ≡ openedFrom (now (card .entry)) ⌝ }
 {

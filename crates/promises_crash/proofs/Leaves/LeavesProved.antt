@@ -1,7 +1,7 @@
 -- What land, mount, sync and unmount leave, and that five calls count 0: proved. Assumes nothing.
 use mathlib.Core.Path.{_≡_, refl, _∙_}
 use mathlib.Core.List.{List}
-use Prim.Native.Nat.{ℕ, _+_, _-_, _*_, _^_, _<_}
+use Prim.Native.Nat.{ℕ, _+_, _*_, _^_, _<_}
 use native.Mathlib.Omega.{arith}
 use borrow.Author.Tests.{eqb-true, ltb-true}
 use lib.ListN.{length}
@@ -22,8 +22,8 @@ use Rattle.session.proofs.FitLaws.{Fit, fit-inv}
 use Rattle.store.specs.Steps.{setCount, mountSteps}
 use Rattle.store.proofs.StepLaws.{count-length, count-here, count-count}
 use Rattle.store.specs.Mount.{Ended, openedFrom, mountDone, mount}
-use Rattle.store.specs.Edit.{put, remove, putAt}
-use Rattle.store.specs.Sync.{bothPlan, land, sync, unmount, syncDone, unmountDone}
+use Rattle.store.specs.Edit.{remove, putAt}
+use Rattle.store.specs.Sync.{bothPlan, land, sync, unmount}
 use Rattle.store.proofs.Plans.{both-inv, both-num, mount-few, mount-good, mount-num, sync-live}
 use Rattle.promises_crash.proofs.Play.{copied}
 use Rattle.promises_crash.proofs.SteadyProved.{through}
