@@ -15,6 +15,7 @@ ghost use Rattle.apages.specs.Inner.{PairIn};
 ghost use Rattle.apages.specs.Index.{groupOf, indexIn, pageIn, shownPage};
 ghost use Rattle.card.specs.Files.{filesOf, runOf, runAt, contentOf, noLine};
 ghost use Rattle.card.specs.Inner.{RunsOk, shows, lineOf, IsGot, getAt, getIn, noLined};
+ghost use Rattle.card_files.specs.Inner.{IsNext};
 use card::Answer;
 use card::Line;
 use card::Lined;
@@ -152,6 +153,30 @@ pub fn line_in(card: &[u8], g: Geo, v: View, i: u32) -> Line
         j += 1;
     }
     no_line()
+}
+
+// A line of a list, and the entry after its own.
+pub struct Next {
+    pub line: Line,
+    pub after: usize,
+}
+
+// The line of the first entry that shows a file, from an entry on.
+pub fn next_line(card: &[u8], g: Geo, v: View, from: usize) -> Next
+    requires { ⌜ LaidOut g (now card) ⌝ }
+    ensures { λ r. ⌜ IsNext (tableIn g v (sec (now (card .entry)))) (entriesOf g (sec (now (card .entry)))) from r ⌝ }
+{
+    let mut j = from;
+    while j < 4 * (g.d as usize) {
+        let one = shows(card, g, v, j);
+        if 0 < one {
+            let line = line_at(card, g, v, j);
+            return Next { line, after: j + 1 };
+        }
+        j += 1;
+    }
+    let line = no_line();
+    Next { line, after: j }
 }
 
 // The sector of the page of pair p that a view shows.

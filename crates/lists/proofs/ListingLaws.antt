@@ -2,12 +2,12 @@
 use mathlib.Core.Path.{_≡_, refl, sym, ap, subst, _∙_}
 use mathlib.Core.Bool.{Bool, true, false, cond}
 use mathlib.Core.List.{List, [], _∷_, _++_}
-use Prim.Native.Nat.{ℕ, zero, suc, _≤_, _<_}
+use Prim.Native.Nat.{ℕ, zero, suc, _+_, _≤_, _<_}
 use native.Mathlib.Omega.{arith}
 use borrow.Author.Tests.{leb-true}
 use lib.Dec.{leb}
 use lib.ListN.{length, take, drop, getD, set, length-set}
-use lib.Seq.{take-length, drop-set-lt}
+use lib.Seq.{take-length, drop-set-lt, drop-drop, getD-drop}
 use Rattle.sectors.specs.Sectors.{sec}
 use Rattle.counts.specs.declared.Geo.{Geo}
 use Rattle.counts.specs.declared.View.{View}
@@ -28,7 +28,7 @@ use Rattle.session.specs.Fits.{fits}
 use Rattle.store.specs.Look.{listTests, list}
 use Rattle.store.proofs.ViewLaws.{fit-laid}
 use Rattle.lists.specs.declared.Listing.{Listing}
-use Rattle.lists.specs.Listings.{filesBy, filesAt, noListing, listingIn, sessionListing, cardListing, filledTo}
+use Rattle.lists.specs.Listings.{filesBy, filesAt, filesFrom, noListing, listingIn, sessionListing, cardListing, filledTo}
 use Rattle.lists.proofs.ListingText.{in-text, session-text, card-text}
 use Rattle.lists.specs.Inner.{HasRoom}
 
@@ -52,6 +52,22 @@ unfolding filledTo
 filledTo-is files zero lines p q = refl
 filledTo-is files (suc n) lines p q =
     ap (λ (r : List Line). set r n (getD files n noLine)) (filledTo-is files n lines (omega arith) (omega arith)) ∙ fill-next files lines n (omega arith) (omega arith)
+
+-- ---- the files that are left, from an entry on
+
+pub from-start : (l : Listing) (img : List ℕ) → filesFrom l img 0 ≡ drop 0 (filesAt l img)
+unfolding filesFrom filesAt filesBy
+from-start l img = refl
+
+-- of files, the first i of which are stored, one more is
+pub from-next : (files : List Line) (i : ℕ) (left later : List Line) → left ≡ drop i files → later ≡ drop 1 left → later ≡ drop (i + 1) files
+from-next files i left later e f = f ∙ ap (drop 1) e ∙ drop-drop 1 i files
+
+-- the line of the next one
+pub line-next : (files : List Line) (i : ℕ) (left : List Line) (r : Line) → left ≡ drop i files → r ≡ getD left 0 noLine → r ≡ getD files i noLine
+line-next files i left r e f =
+    let z : i + 0 ≡ i = omega arith in
+    f ∙ ap (λ (l : List Line). getD l 0 noLine) e ∙ getD-drop i files 0 noLine ∙ ap (λ (m : ℕ). getD files m noLine) z
 
 none-ready : (k : ℕ) (img : List ℕ) (room : ℕ) → HasRoom (noListing k) img room
 unfolding noListing refused

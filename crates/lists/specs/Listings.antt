@@ -1,7 +1,7 @@
 -- What list judges and counts before it fills a line, and the table with its first lines filled. Assumes nothing.
 use mathlib.Core.List.{List}
 use Prim.Native.Nat.{ℕ, zero, suc}
-use lib.ListN.{length, getD, set}
+use lib.ListN.{length, drop, getD, set}
 use Rattle.sectors.specs.Sectors.{sec}
 use Rattle.counts.specs.declared.Geo.{Geo}
 use Rattle.counts.specs.declared.View.{View}
@@ -25,6 +25,10 @@ filesBy g v img = filesOf (tableIn g v (sec img)) (entriesOf g (sec img))
 -- the files of the view that a listing names
 unfoldable pub filesAt : Listing → List ℕ → List Line
 filesAt l img = filesBy (l .geo) (l .view) img
+
+-- those that its entries from j on show
+unfoldable pub filesFrom : Listing → List ℕ → ℕ → List Line
+filesFrom l img j = filesOf (tableIn (l .geo) (l .view) (sec img)) (drop j (entriesOf (l .geo) (sec img)))
 
 -- a refusal names no view
 unfoldable pub noListing : ℕ → Listing

@@ -3,20 +3,21 @@
 // To a host a slice crosses as a pointer and a length, a line and an answer as the words and bytes of their structs, a
 // session as the 24 bytes that crate host names. No two lent buffers may overlap.
 ghost use mathlib.Core.Path.{_≡_};
-ghost use lib.ListN.{length, getD};
+ghost use lib.ListN.{length, drop, getD};
 ghost use Rattle.counts.specs.Inner.{LaidOut};
 ghost use Rattle.card.specs.Files.{noLine};
 ghost use Rattle.card.specs.Reading.{readList};
 ghost use Rattle.store.specs.Look.{list};
 ghost use Rattle.host_crossing.specs.Crossing.{decoded};
-ghost use Rattle.lists.specs.Listings.{filesAt, noListing, listingIn, sessionListing, cardListing, filledTo};
+ghost use Rattle.lists.specs.Listings.{filesAt, filesFrom, noListing, listingIn, sessionListing, cardListing, filledTo};
 ghost use Rattle.lists.specs.Inner.{HasRoom};
 use card::Answer;
 use card::Line;
 use card::refusal;
 use card::success;
+use card_files::Next;
 use card_files::file_count;
-use card_files::line_in;
+use card_files::next_line;
 use card_sound::shape_ok;
 use card_sound::sound;
 use counts::CrashCount;
@@ -95,24 +96,27 @@ fn card_listing(card: &[u8], room: usize) -> Listing
     listing_in(card, g, v, room)
 }
 
-// The line at a position of a listing.
-fn line_of(img: &[u8], l: Listing, i: u32) -> Line
+// The next line of a listing, from entry j on.
+fn next_of(img: &[u8], l: Listing, j: usize) -> Next
     requires { ⌜ LaidOut (l .geo) (now img) ⌝ }
-    ensures { λ r. ⌜ r ≡ getD (filesAt l (now (img .entry))) i noLine ⌝ }
+    ensures { λ r. ⌜ (r .line ≡ getD (filesFrom l (now (img .entry)) j) 0 noLine) × (filesFrom l (now (img .entry)) (r .after) ≡ drop 1 (filesFrom l (now (img .entry)) j)) ⌝ }
 {
     let g = l.geo;
     let v = l.view;
-    line_in(img, g, v, i)
+    next_line(img, g, v, j)
 }
 
-// Fills the first lines of the table, one line a file; later lines stay.
+// Fills the first lines of the table, one line a file, each from the entry after the last one's; later lines stay.
 fn fill_lines(img: &[u8], l: Listing, lines: &mut [Line]) -> Answer
     requires { ⌜ HasRoom l (now img) (length (now lines)) ⌝ }
     ensures { λ r. ⌜ (r ≡ l .answer) × (now (lines .exit) ≡ filledTo (filesAt l (now (img .entry))) (l .answer .count) (now (lines .entry))) ⌝ }
 {
     let mut i: u32 = 0;
+    let mut j: usize = 0;
     while i < l.answer.count {
-        lines[i as usize] = line_of(img, l, i);
+        let next = next_of(img, l, j);
+        lines[i as usize] = next.line;
+        j = next.after;
         i += 1;
     }
     l.answer
