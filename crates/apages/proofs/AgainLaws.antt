@@ -20,6 +20,7 @@ use Rattle.counts.proofs.GeoLaws.{table-same}
 use Rattle.counts.specs.Inner.{LaidOut}
 use Rattle.counts.proofs.TableLaws.{pages-few, dir-is}
 use Rattle.counts.specs.Stamps.{standing, tableIn}
+use Rattle.entries.specs.declared.Run.{Run}
 use Rattle.apages.specs.declared.Index.{Index}
 use Rattle.apages.specs.Index.{indexOf, groupBytes, groupOf, indexIn, pairOk, changedIndex, pageBefore, changeRun, changeBits}
 use Rattle.apages.proofs.IndexLaws.{group-a, group-b}
@@ -98,12 +99,13 @@ module _ (g : Geo) (tab : List ℕ) (own : Stamp) (img : List ℕ) (laid : LaidO
       unfold tableIn in (rw (table-same g (sec img) (sec (changeRun g tab own a (suc n) v img)) (λ i lo hi. low-same a n v (omega arith) i hi)))
 
 -- set, then clear: what the first leaves
-module _ (g : Geo) (own : Stamp) (w : View) (img : List ℕ) (laid : LaidOut g img) (pairs : PairIn g img) (a k : ℕ) (inside : 0 < k → a < 4096 * gP g)
-    {first : List ℕ} (e : first ≡ changeRun g (tableIn g w (sec img)) own a k 1 img) where
+module _ (g : Geo) (own : Stamp) (w : View) (img : List ℕ) (laid : LaidOut g img) (pairs : PairIn g img) (new : Run)
+    (inside : 0 < new .sectors → new .start .0 < 4096 * gP g) {first : List ℕ} (e : first ≡ changeRun g (tableIn g w (sec img)) own (new .start .0) (new .sectors) 1 img) where
   pub pairs-again : PairIn g first
-  pairs-again = rw e (run-pairs g (tableIn g w (sec img)) own img laid pairs a k 1 inside)
+  pairs-again = rw e (run-pairs g (tableIn g w (sec img)) own img laid pairs (new .start .0) (new .sectors) 1 inside)
 
-  pub bits-again : (b m : ℕ) {second : List ℕ} → second ≡ changeRun g (tableIn g w (sec first)) own b m 0 first → second ≡ changeBits g (tableIn g w (sec img)) own a k b m img
-  bits-again b m f =
-      let t : tableIn g w (sec first) ≡ tableIn g w (sec img) = ap (λ (x : List ℕ). tableIn g w (sec x)) e ∙ run-table g (tableIn g w (sec img)) own img laid pairs a k 1 inside w in
-      bits-both g (tableIn g w (sec img)) own a k b m img e (f ∙ ap (λ (l : List ℕ). changeRun g l own b m 0 first) t)
+  pub bits-again : (old : Run) {second : List ℕ} → second ≡ changeRun g (tableIn g w (sec first)) own (old .start .0) (old .sectors) 0 first
+      → second ≡ changeBits g (tableIn g w (sec img)) own new old img
+  bits-again old f =
+      let t : tableIn g w (sec first) ≡ tableIn g w (sec img) = ap (λ (x : List ℕ). tableIn g w (sec x)) e ∙ run-table g (tableIn g w (sec img)) own img laid pairs (new .start .0) (new .sectors) 1 inside w in
+      bits-both g (tableIn g w (sec img)) own new old img e (f ∙ ap (λ (l : List ℕ). changeRun g l own (old .start .0) (old .sectors) 0 first) t)

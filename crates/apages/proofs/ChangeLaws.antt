@@ -18,6 +18,7 @@ use Rattle.counts.specs.declared.Stamp.{Stamp}
 use Rattle.counts.specs.declared.Standing.{Standing}
 use Rattle.counts.specs.Geometry.{gP}
 use Rattle.counts.specs.Stamps.{stampOf, alive, showing, stampOk, deadBelow, standing}
+use Rattle.entries.specs.declared.Run.{Run}
 use Rattle.apages.specs.declared.Index.{Index}
 use Rattle.apages.specs.Bits.{setRun}
 use Rattle.apages.proofs.RunLaws.{setRun-length}
@@ -135,6 +136,7 @@ run-written g st y a n v img {w₁} {w₂} {w₃} small off index page room e₁
     ∙ ap (λ (w : List ℕ). setSec w (y .a .0) new) f₁
 
 -- set, then clear
-pub bits-both : (g : Geo) (tab : List ℕ) (own : Stamp) (a k b m : ℕ) (img : List ℕ) {w₁ w₂ : List ℕ} → w₁ ≡ changeRun g tab own a k 1 img → w₂ ≡ changeRun g tab own b m 0 w₁ → w₂ ≡ changeBits g tab own a k b m img
+pub bits-both : (g : Geo) (tab : List ℕ) (own : Stamp) (new old : Run) (img : List ℕ) {w₁ w₂ : List ℕ} → w₁ ≡ changeRun g tab own (new .start .0) (new .sectors) 1 img
+    → w₂ ≡ changeRun g tab own (old .start .0) (old .sectors) 0 w₁ → w₂ ≡ changeBits g tab own new old img
 unfolding changeBits
-bits-both g tab own a k b m img e f = rw (f, e)
+bits-both g tab own new old img e f = rw (f, e)

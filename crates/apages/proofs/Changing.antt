@@ -15,15 +15,21 @@ use Rattle.counts.specs.declared.Stamp.{Stamp}
 use Rattle.counts.specs.Geometry.{gN, gP}
 use Rattle.counts.proofs.GeoLaws.{Limits}
 use Rattle.counts.specs.Stamps.{maxTx, standing}
+use Rattle.entries.specs.declared.Run.{Run}
 use Rattle.apages.specs.declared.Index.{Index}
 use Rattle.apages.specs.Bits.{setRun}
 use Rattle.apages.specs.Index.{indexOf, groupBytes, groupOf, indexIn, shownPage, pageAt, changedIndex, pageBefore, changeRun, changeBits}
+use Rattle.apages.specs.Inner.{InOnePage}
 use Rattle.apages.proofs.IndexLaws.{group-length}
 use Rattle.apages.proofs.PassLaws.{shown-range}
 use Rattle.apages.proofs.MapLaws.{map-set}
 use Rattle.apages.proofs.Remapped.{Paired, Remapped, remapped-then, paired-wide}
 use Rattle.apages.proofs.FrameLaws.{bits-length, bits-other, index-now, group-here, group-there, bits-page}
 use Rattle.apages.proofs.IndexViews.{IdxSame, idx-refl, IndexSame, index-refl, before-shown, hidden, between, back-stamp, now-page, index-step}
+
+-- page q has the sectors of a run, which lie in one page
+abbrev OfRun : Run → ℕ → Type 0
+OfRun r q = (0 < r .sectors) × (q ≡ r .start .0 / 4096)
 
 module _ (g : Geo) (L : Limits g) (tab : List ℕ) (own : Stamp) (cN : own .cc .0 < gN g) (tM : own .txc .0 ≤ maxTx)
     (hc : own .cc .0 < length tab) (hw : getD tab (own .cc .0) 0 + 1 ≡ own .txc .0) where
@@ -156,10 +162,10 @@ module _ (g : Geo) (L : Limits g) (tab : List ℕ) (own : Stamp) (cN : own .cc .
       record { paired = P; index = index-refl g tab own _; stamped = λ q l w. absurd (omega (arith, w .0)); cut = λ q l. refl; other = λ i o z. refl; pairs = λ q l o. record { group = refl; first = refl; second = refl }; map = refl }
   run-changed a (suc n) v img P fits small = unfold changeRun setRun in run-some a n v img P fits (let s : a < 4096 * gP g = small (omega arith) in omega arith)
 
-  -- "Changing the bitmap": k sectors from a on set, then m from b on cleared
-  pub bits-changed : (a k b m : ℕ) (img : List ℕ) → Paired g own img → a % 4096 + k ≤ 4096 → (0 < k → a < 4096 * gP g) → b % 4096 + m ≤ 4096 → (0 < m → b < 4096 * gP g)
-      → Remapped g tab own (λ p. setRun (setRun p a k 1) b m 0) (λ q. ((0 < k) × (q ≡ a / 4096)) ⊎ ((0 < m) × (q ≡ b / 4096))) img (changeBits g present own a k b m img)
+  -- "Changing the bitmap": the sectors of a new run set, then those of an old one cleared
+  pub bits-changed : (new old : Run) (img : List ℕ) → Paired g own img → InOnePage g new → InOnePage g old
+      → Remapped g tab own (λ p. setRun (setRun p (new .start .0) (new .sectors) 1) (old .start .0) (old .sectors) 0) (λ q. OfRun new q ⊎ OfRun old q) img (changeBits g present own new old img)
   unfolding changeBits
-  bits-changed a k b m img P fa sa fb sb =
-      let A = run-changed a k 1 img P fa sa in
-      remapped-then g tab own A (run-changed b m 0 (changeRun g present own a k 1 img) (A .paired) fb sb)
+  bits-changed new old img P n o =
+      let A = run-changed (new .start .0) (new .sectors) 1 img P (n .0) (n .1) in
+      remapped-then g tab own A (run-changed (old .start .0) (old .sectors) 0 (changeRun g present own (new .start .0) (new .sectors) 1 img) (A .paired) (o .0) (o .1))

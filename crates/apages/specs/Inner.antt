@@ -2,7 +2,7 @@
 use mathlib.Core.Path.{_≡_}
 use mathlib.Core.List.{List, [], _∷_}
 use mathlib.Core.Bool.{true}
-use Prim.Native.Nat.{ℕ, zero, suc, _+_, _*_, _≤_, _<_}
+use Prim.Native.Nat.{ℕ, zero, suc, _+_, _*_, _%_, _≤_, _<_}
 use lib.Bits.{bitOr}
 use lib.ListN.{take, drop}
 use Rattle.words.specs.declared.Found.{Found}
@@ -12,6 +12,7 @@ use Rattle.words.specs.Bytes.{wordAt}
 use Rattle.sectors.specs.Sectors.{sec, Cells}
 use Rattle.counts.specs.Geometry.{gP}
 use Rattle.counts.specs.declared.Geo.{Geo}
+use Rattle.entries.specs.declared.Run.{Run}
 use Rattle.apages.specs.Bits.{putDigit, bitAt, bitsOf}
 use Rattle.apages.specs.Index.{groupOf, indexIn, pairOk, mapFrom}
 use Rattle.apages.specs.Runs.{merge, findRun}
@@ -50,6 +51,10 @@ PairIn g img = (p : ℕ) → p < gP g → pairOk g p (wordAt (groupOf (indexIn g
 -- a sector that is one of pair p
 abbrev pub IsPage : Geo → ℕ → ℕ → Type 0
 IsPage g p a = (g .t + 2 + 2 * p ≤ a) × (a ≤ g .t + 3 + 2 * p)
+
+-- the sectors of a run, if any, lie in one page of the map
+abbrev pub InOnePage : Geo → Run → Type 0
+InOnePage g r = (r .start .0 % 4096 + r .sectors ≤ 4096) × (0 < r .sectors → r .start .0 < 4096 * gP g)
 
 -- pair q is as it was, to the byte: its group, and both of its pages
 pub record PairSame (g : Geo) (img img′ : List ℕ) (q : ℕ) : Type 0 where

@@ -4,7 +4,7 @@ ghost use Prim.Native.Nat.{_+_, _*_, _/_, _%_, _≤_, _<_};
 ghost use lib.ListN.{length};
 ghost use Rattle.apages.specs.Bits.{setRun};
 ghost use Rattle.apages.specs.Index.{changedIndex, pageBefore, changedRun, changeRun, changeBits};
-ghost use Rattle.apages.specs.Inner.{PairIn, IsPage};
+ghost use Rattle.apages.specs.Inner.{PairIn, IsPage, InOnePage};
 ghost use Rattle.sectors.specs.Sectors.{sec, setSec};
 ghost use Rattle.counts.specs.Geometry.{gP};
 ghost use Rattle.counts.specs.Inner.{LaidOut};
@@ -14,6 +14,7 @@ use counts::Geo;
 use counts::Stamp;
 use counts::Standing;
 use counts::View;
+use entries::Run;
 use sectors::Sector;
 
 // "when alive, A and B trade places": what one of the two becomes, when it was old and the other new.
@@ -101,21 +102,11 @@ pub fn change_run(img: &mut [u8], g: Geo, v: View, own: Stamp, a: Sector, n: u32
     change_pair(img, g, st, y, a, n, bit)
 }
 
-// k sectors from a on become set, then m sectors from b on clear.
-pub fn change_bits(
-    img: &mut [u8],
-    g: Geo,
-    v: View,
-    own: Stamp,
-    a: Sector,
-    k: u32,
-    b: Sector,
-    m: u32,
-)
-    requires { ⌜ LaidOut g (now img)
-        × (PairIn g (now img) × (((a .0 % 4096 + k ≤ 4096) × (0 < k → a .0 < 4096 * gP g)) × ((b .0 % 4096 + m ≤ 4096) × (0 < m → b .0 < 4096 * gP g)))) ⌝ }
-    ensures { λ _. ⌜ now (img .exit) ≡ changeBits g (tableIn g v (sec (now (img .entry)))) own (a .0) k (b .0) m (now (img .entry)) ⌝ }
+// The sectors of a new run become set, then those of an old one clear.
+pub fn change_bits(img: &mut [u8], g: Geo, v: View, own: Stamp, new: Run, old: Run)
+    requires { ⌜ LaidOut g (now img) × (PairIn g (now img) × (InOnePage g new × InOnePage g old)) ⌝ }
+    ensures { λ _. ⌜ now (img .exit) ≡ changeBits g (tableIn g v (sec (now (img .entry)))) own new old (now (img .entry)) ⌝ }
 {
-    change_run(img, g, v, own, a, k, 1);
-    change_run(img, g, v, own, b, m, 0)
+    change_run(img, g, v, own, new.start, new.sectors, 1);
+    change_run(img, g, v, own, old.start, old.sectors, 0)
 }

@@ -14,6 +14,7 @@ use Rattle.counts.specs.declared.Stamp.{Stamp}
 use Rattle.counts.specs.Geometry.{gN, gP}
 use Rattle.counts.proofs.GeoLaws.{Limits}
 use Rattle.counts.specs.Stamps.{maxTx, standing}
+use Rattle.entries.specs.declared.Run.{Run}
 use Rattle.apages.specs.declared.Index.{Index}
 use Rattle.apages.specs.Bits.{setRun}
 use Rattle.apages.specs.Index.{indexOf, groupBytes, groupOf, indexIn, changedIndex, pageBefore, changedRun, changeRun, changeBits}
@@ -79,21 +80,27 @@ module _ (g : Geo) (L : Limits g) (one : gP g ≡ 1) (tab : List ℕ) (own : Sta
       let r′ : b % 4096 ≡ b = omega arith in
       rw (d, r, r′) at (runs-joined g L tab own cN tM hc hw a k 1 b m 0 img P (omega (arith, one)) (omega arith))
 
-  pub change-today : (a k b m : ℕ) → a + k ≤ 4096 → b + m ≤ 4096 → changeBits g present own a k b m img ≡ todayChange g present own a k b m img
-  unfolding changeBits todayChange
-  change-today a zero b zero ha hb = unfold changeRun in refl
-  change-today a (suc k) b zero ha hb =
+  runs-today : (a k b m : ℕ) → a + k ≤ 4096 → b + m ≤ 4096
+      → changeRun g present own b m 0 (changeRun g present own a k 1 img) ≡ todayChange g present own a k b m img
+  unfolding todayChange
+  runs-today a zero b zero ha hb = unfold changeRun in refl
+  runs-today a (suc k) b zero ha hb =
       let o : isZero (suc k + 0) ≡ false = ne-eqb (suc k + 0) 0 (λ e. omega arith) in
       rw o (first ∙ single a k 1 ha ∙ alike (λ p. setRun p a (suc k) 1) ∙ (unfold old setRun in refl))
     where
       first : changeRun g present own b 0 0 (changeRun g present own a (suc k) 1 img) ≡ changeRun g present own a (suc k) 1 img
       first = unfold changeRun in refl
-  change-today a zero b (suc m) ha hb =
+  runs-today a zero b (suc m) ha hb =
       let o : isZero (0 + suc m) ≡ false = ne-eqb (0 + suc m) 0 (λ e. omega arith) in
       rw o (first ∙ single b m 0 hb ∙ alike (λ p. setRun p b (suc m) 0) ∙ (unfold old setRun in refl))
     where
       first : changeRun g present own b (suc m) 0 (changeRun g present own a 0 1 img) ≡ changeRun g present own b (suc m) 0 img
       first = unfold changeRun in refl
-  change-today a (suc k) b (suc m) ha hb =
+  runs-today a (suc k) b (suc m) ha hb =
       let o : isZero (suc k + suc m) ≡ false = ne-eqb (suc k + suc m) 0 (λ e. omega arith) in
       rw o (double a k b m ha hb ∙ alike (λ p. setRun (setRun p a (suc k) 1) b (suc m) 0) ∙ (unfold old in refl))
+
+  pub change-today : (r q : Run) → r .start .0 + r .sectors ≤ 4096 → q .start .0 + q .sectors ≤ 4096
+      → changeBits g present own r q img ≡ todayChange g present own (r .start .0) (r .sectors) (q .start .0) (q .sectors) img
+  unfolding changeBits
+  change-today r q = runs-today (r .start .0) (r .sectors) (q .start .0) (q .sectors)

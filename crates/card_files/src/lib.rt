@@ -36,7 +36,7 @@ pub fn one_if(b: bool) -> u32
 }
 
 // The run of a version; an absent one has none.
-fn run_of(v: Version) -> Run
+pub fn run_of(v: Version) -> Run
     ensures { λ r. ⌜ r ≡ runOf v ⌝ }
 {
     match v {

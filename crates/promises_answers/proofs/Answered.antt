@@ -16,13 +16,14 @@ use Rattle.sectors.specs.Sectors.{Cells, sec}
 use Rattle.counts.specs.declared.Geo.{Geo}
 use Rattle.counts.specs.Geometry.{gDir, gF, tableOf}
 use Rattle.counts.proofs.GeoLaws.{Limits, table-same}
+use Rattle.entries.specs.declared.Run.{Run}
 use Rattle.entries.specs.declared.Version.{Version}
 use Rattle.entries.specs.declared.Version.the-variants.{Absent, Present}
 use Rattle.entries.specs.Entries.{shown, nameOf, sectorsFor}
 use Rattle.entries.proofs.ChangeLaws.{bytes-size, bytes-name, now-shown, pad-length}
 use Rattle.directory.specs.Directory.{entriesOf, spotOf}
 use Rattle.card.specs.declared.Line.{Line}
-use Rattle.card.specs.Files.{FileHolds, consFile, filesOf, cover, contentOf}
+use Rattle.card.specs.Files.{FileHolds, consFile, filesOf, cover, contentOf, runOf}
 use Rattle.card.proofs.PieceLaws.{holds-run, content-same, content-run}
 use Rattle.card.proofs.FileLaws.{files-append, Within, files-within, Holds, held-data, held-cover, cover-append}
 use Rattle.card.proofs.SoundLaws.{View}
@@ -50,16 +51,15 @@ cover-cons p Absent fs i = omega arith
 cover-cons p (Present r) fs i = omega arith
 
 -- content that was put is read back
-pub put-back : (a k S : ℕ) (d work : List ℕ) → length work ≡ 512 * S → a + k ≤ S → length d ≤ 512 * k → take (length d) (drop (512 * a) (putContent a k d work)) ≡ d
+pub put-back : (r : Run) (S : ℕ) (d work : List ℕ) → length work ≡ 512 * S → r .start .0 + r .sectors ≤ S → length d ≤ 512 * r .sectors
+    → take (length d) (drop (512 * r .start .0) (putContent r d work)) ≡ d
 unfolding putContent
-put-back a zero S [] work l f e = refl
-put-back a zero S (x ∷ d) work l f e = absurd (omega arith)
-put-back a (suc k) S d work l f e =
-    let X : List ℕ = drop (512 * a) (splice work (512 * a) (pad (512 * suc k) d)) in
-    let w : take (512 * suc k) (drop (512 * a) (splice work (512 * a) (pad (512 * suc k) d))) ≡ pad (512 * suc k) d =
-    range-same work (512 * a) (512 * suc k) (pad (512 * suc k) d) (pad-length (512 * suc k) d e) (omega arith) in
-    sym (take-take (length d) (512 * suc k) (drop (512 * a) (splice work (512 * a) (pad (512 * suc k) d))) e)
-    ∙ ap (λ (x : List ℕ). take (length d) x) w ∙ (unfold pad in take-at d (replicate (512 * suc k - length d) 0) (length d) refl)
+put-back r S d work l f e =
+    let at = 512 * r .start .0 in
+    let n = 512 * r .sectors in
+    let w : take n (drop at (splice work at (pad n d))) ≡ pad n d = range-same work at n (pad n d) (pad-length n d e) (omega arith) in
+    sym (take-take (length d) n (drop at (splice work at (pad n d))) e) ∙ ap (λ (x : List ℕ). take (length d) x) w
+    ∙ (unfold pad in take-at d (replicate (n - length d) 0) (length d) refl)
 
 module _ (s : Opened) (j a k : ℕ) (v : Version) (work n d : List ℕ) (k₀ : Cells) (R : Ready s j a k v work n d k₀)
     (al : Alone (tpOf s work) (tcOf s work) n (entriesOf (s .geo) (sec work)) j)
@@ -78,7 +78,7 @@ module _ (s : Opened) (j a k : ℕ) (v : Version) (work n d : List ℕ) (k₀ : 
   x = entryFor s j v work n
 
   abbrev pub after : List ℕ
-  after = editWork s j a k v work n d
+  after = editWork s j v work n d
 
   L : Limits g
   L = lim s work (R .fit) (R .live)
@@ -180,13 +180,15 @@ module _ (s : Opened) (j a k : ℕ) (v : Version) (work n d : List ℕ) (k₀ : 
       in-run : (i : ℕ) → FileHolds (putRun a d) i → (a ≤ i) × (i < a + k)
       in-run i h = rw q (unfold putRun in holds-run (putRun a d) i .0 h)
 
-      whole : contentOf after (putRun a d) ≡ contentOf (putContent a k d work) (putRun a d)
+      whole : contentOf after (putRun a d) ≡ contentOf (putContent (runOf v) d work) (putRun a d)
       whole =
-          content-same after (putContent a k d work) (putRun a d)
+          content-same after (putContent (runOf v) d work) (putRun a d)
           (λ i h. data-put s j a k v work n d k₀ R i (R .inside i (in-run i h .0) (in-run i h .1)))
 
-      there : contentOf (putContent a k d work) (putRun a d) ≡ take (length d) (drop (512 * a) (putContent a k d work))
-      there = unfold putRun in content-run (putContent a k d work) (putRun a d) (rw (← q) (R .enough))
+      there : contentOf (putContent (runOf v) d work) (putRun a d) ≡ take (length d) (drop (512 * a) (putContent (runOf v) d work))
+      there = unfold putRun in content-run (putContent (runOf v) d work) (putRun a d) (rw (← q) (R .enough))
 
       text : contentOf after (putRun a d) ≡ d
-      text = whole ∙ there ∙ put-back a k (g .s) d work (R .fit .sized) (R .fits) (R .enough)
+      text =
+          whole ∙ there ∙ ap (λ (i : ℕ). take (length d) (drop (512 * i) (putContent (runOf v) d work))) (sym (R .is .0))
+          ∙ put-back (runOf v) (g .s) d work (R .fit .sized) (rw (R .is .0, R .is .1) (R .fits)) (rw (R .is .1) (R .enough))

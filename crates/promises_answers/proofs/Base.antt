@@ -39,11 +39,11 @@ pub record Base (s : Opened) (img₀ : List ℕ) : Type 0 where
 
 module _ (s : Opened) (img₀ : List ℕ) (B : Base s img₀) (work : List ℕ) (P : (i : ℕ) → Keeps (s .geo) (ownOf s) (sec img₀) i (sec work i)) where
   change-keeps : (j a k : ℕ) (v : Version) (n d : List ℕ) → Ready s j a k v work n d (sec img₀)
-      → (i : ℕ) → Keeps (s .geo) (ownOf s) (sec img₀) i (sec (editWork s j a k v work n d) i)
+      → (i : ℕ) → Keeps (s .geo) (ownOf s) (sec img₀) i (sec (editWork s j v work n d) i)
   unfolding indexIn
   change-keeps j a k v n d R =
       λ i.
-      wrote-keeps (s .geo) (ownOf s) (sec img₀) (sec work) (sec (editWork s j a k v work n d)) P
+      wrote-keeps (s .geo) (ownOf s) (sec img₀) (sec work) (sec (editWork s j v work n d)) P
       (view-page (s .geo) _ _ (sec img₀) (sound-view (s .geo) (sec img₀) (B .good))) in-data i
       (wrote s j a k v work n d (sec img₀) R (sym table) (λ p l. sym (rw table (P (s .geo .t + 1) .index refl .groups p l .page))) in-data i)
     where
@@ -61,7 +61,7 @@ module _ (s : Opened) (img₀ : List ℕ) (B : Base s img₀) (work : List ℕ) 
   same-files : filesIn (s .geo) (sec work) ≡ filesIn (s .geo) (sec img₀)
   same-files = kept-files (s .geo) (ownOf s) (sec img₀) (sec work) P
 
-  left : (j a k : ℕ) (v : Version) (n d : List ℕ) → Ready s j a k v work n d (sec img₀) → Kept (editWork s j a k v work n d)
+  left : (j a k : ℕ) (v : Version) (n d : List ℕ) → Ready s j a k v work n d (sec img₀) → Kept (editWork s j v work n d)
   left j a k v n d R = record { sized = edit-length s j a k v work n d (sec img₀) R; keeps = change-keeps j a k v n d R }
 
   pub remove-left : (n : List ℕ) (j a : ℕ) → removePlan s work n ≡ doIt j a → Kept (removeWork s j work n)

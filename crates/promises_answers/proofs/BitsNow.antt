@@ -71,13 +71,13 @@ entry-held tab (p ∷ ps) (suc j) i h q = omega (arith, cover-version p (shown t
 
 -- ---- one change of an entry
 
-module _ (s : Opened) (j a k : ℕ) (v : Version) (work n d : List ℕ) (R : Ready s j a k v work n d (sec work)) (C : CanEdit s work j a k n d)
+module _ (s : Opened) (j a k : ℕ) (v : Version) (work n d : List ℕ) (R : Ready s j a k v work n d (sec work)) (C : CanEdit s work j (runOf v) n d)
     (free : (i : ℕ) → a ≤ i → i < a + k → cover (filesOf (tpOf s work) (entriesOf (s .geo) (sec work))) i ≡ 0) where
   abbrev g : Geo
   g = s .geo
 
   abbrev after : List ℕ
-  after = editWork s j a k v work n d
+  after = editWork s j v work n d
 
   abbrev b : ℕ
   b = oldRun s j work .start .0
@@ -113,7 +113,7 @@ module _ (s : Opened) (j a k : ℕ) (v : Version) (work n d : List ℕ) (R : Rea
   wide = page-wide g (s .c .0) (tpOf s work) work (R .fit .shape) (R .fit .sized) (pres s work (R .fit) (R .live))
 
   new-in : a + k ≤ 8 * length (pageIn g (tpOf s work) (sec work))
-  new-in = omega (arith, wide, C .top)
+  new-in = omega (arith, wide, C .top, R .is .0, R .is .1)
 
   old-in : b + m ≤ 8 * length (setRun (pageIn g (tpOf s work) (sec work)) a k 1)
   old-in = omega (arith, wide, setRun-length (pageIn g (tpOf s work) (sec work)) a k 1, old-top)

@@ -20,7 +20,7 @@ use Rattle.apages.specs.Runs.{runFor}
 use Rattle.apages.specs.Index.{pageIn}
 use Rattle.apages.proofs.LowestLaws.{run-for-none, run-page, run-clear, run-fits}
 use Rattle.card.specs.Plan.{doIt}
-use Rattle.card.specs.Files.{cover, filesOf}
+use Rattle.card.specs.Files.{cover, filesOf, runOf}
 use Rattle.card.proofs.FileLaws.{Holds, held-cover}
 use Rattle.card.specs.Reading.{filesIn}
 use Rattle.card.proofs.SpaceLaws.{page-wide, clear-bit}
@@ -59,6 +59,7 @@ module _ (s : Opened) (work : List ℕ) (k₀ : Cells) (same-files : filesIn (s 
         below = N .below;
         short = short-name n (p .name);
         good = tt;
+        is = unfold runOf in (refl, refl);
         named = named-is n j F (p .live) N;
         inside = λ i lo hi. absurd (omega arith);
         fits = omega arith;
@@ -86,6 +87,7 @@ module _ (s : Opened) (work : List ℕ) (k₀ : Cells) (same-files : filesIn (s 
         below = N .below;
         short = short-name n (p .name);
         good = good r f run (run-page (sectorsFor (length d)) goal a _ _ (wp ∙ sym wc) run);
+        is = unfold runOf putRun in (refl, refl);
         named = named-is n j F (p .live) N;
         inside = λ i lo hi. r i lo hi .0 .0;
         fits = f;

@@ -21,7 +21,7 @@ use Rattle.apages.proofs.MapLaws.{map-same}
 use Rattle.apages.proofs.Remapped.{Paired, Remapped, cut-map}
 use Rattle.apages.specs.Inner.{PairSame}
 use Rattle.apages.proofs.Changing.{bits-changed}
-use Rattle.card.specs.Files.{runAt}
+use Rattle.card.specs.Files.{runOf, runAt}
 use Rattle.session.specs.declared.Opened.{Opened}
 use Rattle.session.specs.Views.{ownStamp}
 use Rattle.session.proofs.FitLaws.{present-live}
@@ -36,12 +36,15 @@ module _ (s : Opened) (j a k : ℕ) (v : Version) (work n d : List ℕ) (k₀ : 
 
   -- the working image with the content and the entry written
   two : List ℕ
-  two = setEntry (spotOf g j) (entryFor s j v work n) (putContent a k d work)
+  two = setEntry (spotOf g j) (entryFor s j v work n) (putContent (runOf v) d work)
 
-  one-length : length (putContent a k d work) ≡ 512 * g .s
-  one-length = content-length a k d work ∙ R .fit .sized
+  one-length : length (putContent (runOf v) d work) ≡ 512 * g .s
+  one-length = content-length (runOf v) d work ∙ R .fit .sized
 
-  in-one : 512 * (spotOf g j .sector) + 512 ≤ length (putContent a k d work)
+  one-other : (i : ℕ) → ¬ ((a ≤ i) × (i < a + k)) → sec (putContent (runOf v) d work) i ≡ sec work i
+  one-other i o = content-other (runOf v) d work (rw (R .is .1) (R .enough)) i (rw (R .is .0, R .is .1) o)
+
+  in-one : 512 * (spotOf g j .sector) + 512 ≤ length (putContent (runOf v) d work)
   in-one = omega (arith, one-length, in-card s j a k v work n d k₀ R)
 
   two-length : length two ≡ 512 * g .s
@@ -51,7 +54,7 @@ module _ (s : Opened) (j a k : ℕ) (v : Version) (work n d : List ℕ) (k₀ : 
   two-other : (i : ℕ) → i ≢ spotOf g j .sector → ¬ ((a ≤ i) × (i < a + k)) → sec two i ≡ sec work i
   unfolding two
   two-other i x o =
-      entry-other (spotOf g j) _ _ in-one (spot s j a k v work n d k₀ R .four) (wide s j a k v work n d k₀ R) i x ∙ content-other a k d work (R .enough) i o
+      entry-other (spotOf g j) _ _ in-one (spot s j a k v work n d k₀ R .four) (wide s j a k v work n d k₀ R) i x ∙ one-other i o
 
   -- a sector before the directory is as it was
   two-low : (i : ℕ) → i < gDir g → sec two i ≡ sec work i
@@ -61,9 +64,9 @@ module _ (s : Opened) (j a k : ℕ) (v : Version) (work n d : List ℕ) (k₀ : 
       low-spot = spot s j a k v work n d k₀ R .low
 
   abbrev pub newWork : List ℕ
-  newWork = editWork s j a k v work n d
+  newWork = editWork s j v work n d
 
-  edit-open : newWork ≡ changeBits g (tpOf s work) (ownOf s) a k (oldRun s j work .start .0) (oldRun s j work .sectors) two
+  edit-open : newWork ≡ changeBits g (tpOf s work) (ownOf s) (runOf v) (oldRun s j work) two
   unfolding editWork runAt ownStamp two
   edit-open = rw (present-live s (sec work) (R .live))
 
@@ -94,10 +97,13 @@ module _ (s : Opened) (j a k : ℕ) (v : Version) (work n d : List ℕ) (k₀ : 
 
   -- what the change of the bitmap does
   remapped : Remapped g (tcOf s work) (ownOf s) (λ p. setRun (setRun p a k 1) b m 0) (λ q. ((0 < k) × (q ≡ a / 4096)) ⊎ ((0 < m) × (q ≡ b / 4096))) two newWork
+  unfolding runOf
   remapped =
       rw edit-open
-      (bits-changed g L (tcOf s work) (ownOf s) (R .fit .count) (R .fit .tx) (hc s work (R .fit) (R .live)) (hw s work (R .fit) (R .live)) a k b m two paired-two (R .page)
-      (λ h. omega (arith, R .fits, L .covered)) (old-page s j a k v work n d k₀ R) (λ h. omega (arith, old-room s j a k v work n d k₀ R, L .covered)))
+      (rw (R .is .0, R .is .1) at
+      (bits-changed g L (tcOf s work) (ownOf s) (R .fit .count) (R .fit .tx) (hc s work (R .fit) (R .live)) (hw s work (R .fit) (R .live)) (runOf v) (oldRun s j work) two paired-two
+      (rw (R .is .0, R .is .1) (R .page, λ h. omega (arith, R .fits, L .covered)))
+      (old-page s j a k v work n d k₀ R, λ h. omega (arith, old-room s j a k v work n d k₀ R, L .covered))))
 
   pub edit-length : length newWork ≡ 512 * g .s
   edit-length = remapped .paired .sized
@@ -128,14 +134,17 @@ module _ (s : Opened) (j a k : ℕ) (v : Version) (work n d : List ℕ) (k₀ : 
       }
 
   -- with no bit to change the index stays too
-  no-bits : (x y : ℕ) (img : List ℕ) → x ≡ 0 → y ≡ 0 → changeBits g (tpOf s work) (ownOf s) a x b y img ≡ img
-  unfolding changeBits changeRun
-  no-bits zero zero img u w = refl
-  no-bits zero (suc y) img u w = absurd (omega arith)
-  no-bits (suc x) y img u w = absurd (omega arith)
+  no-run : (x c u : ℕ) (img : List ℕ) → c ≡ 0 → changeRun g (tpOf s work) (ownOf s) x c u img ≡ img
+  unfolding changeRun
+  no-run x zero u img e = refl
+  no-run x (suc c) u img e = absurd (omega arith)
+
+  no-bits : (img : List ℕ) → k ≡ 0 → m ≡ 0 → changeBits g (tpOf s work) (ownOf s) (runOf v) (oldRun s j work) img ≡ img
+  unfolding changeBits
+  no-bits img x y = no-run b m 0 _ y ∙ no-run (runOf v .start .0) (runOf v .sectors) 1 img (R .is .1 ∙ x)
 
   pub index-kept : k ≡ 0 → m ≡ 0 → indexIn g (sec newWork) ≡ indexAt s work
-  index-kept x y = ap (λ (img : List ℕ). indexIn g (sec img)) (edit-open ∙ no-bits k m two x y) ∙ index-two
+  index-kept x y = ap (λ (img : List ℕ). indexIn g (sec img)) (edit-open ∙ no-bits two x y) ∙ index-two
 
   -- the pages that the cut view shows
   pub page-kept : (p : ℕ) → p < gP g → sec newWork (shownPage (tcOf s work) (groupOf (indexAt s work) p)) ≡ sec work (shownPage (tcOf s work) (groupOf (indexAt s work) p))
@@ -154,9 +163,9 @@ module _ (s : Opened) (j a k : ℕ) (v : Version) (work n d : List ℕ) (k₀ : 
   entry-put =
       ap sectorEntries (remapped .other (spotOf g j .sector) (λ e. omega (arith, low, past-index g)) (λ q. omega (arith, q .1, low)))
       ∙ entry-here (spotOf g j) _ _ in-one (spot s j a k v work n d k₀ R .four) (wide s j a k v work n d k₀ R)
-      ∙ rw (content-other a k d work (R .enough) (spotOf g j .sector) (λ q. omega (arith, high, R .inside _ (q .0) (q .1))))
+      ∙ rw (one-other (spotOf g j .sector) (λ q. omega (arith, high, R .inside _ (q .0) (q .1))))
 
-  pub data-put : (i : ℕ) → gF g ≤ i → sec newWork i ≡ sec (putContent a k d work) i
+  pub data-put : (i : ℕ) → gF g ≤ i → sec newWork i ≡ sec (putContent (runOf v) d work) i
   unfolding two
   data-put i h =
       remapped .other i (λ e. omega (arith, past-index g, dir-data g)) (λ q. omega (arith, q .1, dir-data g))

@@ -18,7 +18,6 @@ use Rattle.entries.specs.Entries.{sectorsFor}
 use Rattle.apages.specs.Index.{pairOk, shownPage}
 use Rattle.apages.proofs.PassLaws.{Pair, pair-values}
 use Rattle.apages.proofs.IndexViews.{IdxSame}
-use Rattle.card.specs.Files.{runOf}
 use Rattle.card.specs.Means.{Alive}
 use Rattle.session.specs.declared.Opened.{Opened}
 use Rattle.session.specs.Views.{ownStamp, cutTable}
@@ -53,7 +52,7 @@ shown-dead tab x h = rw (lt-leb (stampOf x .txc .0) (getD tab (stampOf x .cc .0)
 
 module _ (s : Opened) (j a k : ℕ) (v : Version) (work n d : List ℕ) (R : Ready s j a k v work n d (sec work)) (q : ℕ) (l : q < gP (s .geo)) where
   abbrev after : List ℕ
-  after = editWork s j a k v work n d
+  after = editWork s j v work n d
 
   abbrev x : List ℕ
   x = group s work q
@@ -101,14 +100,14 @@ module _ (s : Opened) (j a k : ℕ) (v : Version) (work n d : List ℕ) (R : Rea
         kept = rw (back e) (page-kept s j a k v work n d (sec work) R q l);
       }
 
-  edit-pairs : (runOf v .start .0 ≡ a) × (runOf v .sectors ≡ k) → Changes s work j v q → PairLeaves s work after q
-  edit-pairs is c = pair-leaves (stamped-now s j a k v work n d (sec work) R q l (changes-runs s work j a k v (R .live) is q (R .page) (old-page s j a k v work n d (sec work) R) c))
+  edit-pairs : Changes s work j v q → PairLeaves s work after q
+  edit-pairs c = pair-leaves (stamped-now s j a k v work n d (sec work) R q l (changes-runs s work j a k v (R .live) (R .is) q (R .page) (old-page s j a k v work n d (sec work) R) c))
 
 pub put-pairs : PutPairs
 unfolding putWork
 put-pairs s work n d goal j a h q l c =
-    edit-pairs s j a (sectorsFor (length d)) (Present (putRun a d)) work n d (put-ready s work (sec work) refl n d goal j a h) q l (unfold runOf putRun in (refl, refl)) c
+    edit-pairs s j a (sectorsFor (length d)) (Present (putRun a d)) work n d (put-ready s work (sec work) refl n d goal j a h) q l c
 
 pub remove-pairs : RemovePairs
 unfolding removeWork
-remove-pairs s work n j a h q l c = edit-pairs s j 0 0 Absent work n [] (remove-ready s work (sec work) refl n j a h) q l (unfold runOf in (refl, refl)) c
+remove-pairs s work n j a h q l c = edit-pairs s j 0 0 Absent work n [] (remove-ready s work (sec work) refl n j a h) q l c

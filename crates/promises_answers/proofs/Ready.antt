@@ -89,7 +89,7 @@ module _ (s : Opened) (work : List ℕ) (F : Fit s work) (live : s .worn ≡ fal
       open-most : entryAtMost s (entryAt s j work) ≡ true → stampAtMost s (stampOf (entryAt s j work)) ≡ true
       open-most h = unfold entryAtMost in h
 
--- ---- the change of entry j: k sectors of content d to sector a, version v under name n
+-- ---- the change of entry j: version v under name n, whose run is the k sectors from a on, for content d
 
 pub record Ready (s : Opened) (j a k : ℕ) (v : Version) (work n d : List ℕ) (k₀ : Cells) : Type 0 where
   pub fit : Fit s work
@@ -97,6 +97,7 @@ pub record Ready (s : Opened) (j a k : ℕ) (v : Version) (work n d : List ℕ) 
   pub below : j < length (entriesOf (s .geo) (sec work))
   pub short : length n ≤ 32
   pub good : GoodVersion (s .geo) v
+  pub is : (runOf v .start .0 ≡ a) × (runOf v .sectors ≡ k)
   pub named : isAbsent (shown (tcOf s work) (entryAt s j work)) ≡ false → (wordAt (entryAt s j work) 8 ≡ length n) × (nameBytes (entryAt s j work) ≡ pad 32 n)
   pub inside : (i : ℕ) → a ≤ i → i < a + k → gF (s .geo) ≤ i
   pub fits : a + k ≤ s .geo .s

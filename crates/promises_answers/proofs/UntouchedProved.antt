@@ -1,8 +1,8 @@
 -- What Untouched states, proved. Assumes nothing.
 use mathlib.Core.Path.{_≡_, refl, sym, _∙_}
-use mathlib.Core.List.{List, [], _∷_}
+use mathlib.Core.List.{List, []}
 use mathlib.Core.Logic.{_⊎_, inl, inr, _↔_}
-use Prim.Native.Nat.{ℕ, zero, suc, _+_, _*_, _/_, _≤_, _<_}
+use Prim.Native.Nat.{ℕ, _+_, _*_, _/_, _≤_, _<_}
 use native.Mathlib.Omega.{arith}
 use lib.ListN.{length, take, drop, getD, set}
 use Rattle.words.specs.Lists.{pad}
@@ -12,6 +12,7 @@ use Rattle.sectors.proofs.FlatLaws.{flat-same}
 use Rattle.counts.specs.declared.Geo.{Geo}
 use Rattle.counts.specs.Geometry.{gF}
 use Rattle.counts.proofs.TableLaws.{past-index}
+use Rattle.entries.specs.declared.Run.{Run}
 use Rattle.entries.specs.declared.Version.{Version}
 use Rattle.entries.specs.declared.Version.the-variants.{Absent, Present}
 use Rattle.entries.specs.Entries.{entryOf, entryBytes, changed, sectorsFor, piecesOf}
@@ -36,22 +37,20 @@ use Rattle.promises_answers.proofs.BitsNow.{InRun, holds-new, holds-old
 use Rattle.promises_answers.specs.Untouched.{earlierRun, Changes, Untouched}
 
 -- the content, as it was put
-content-there : (a k : ℕ) (d work : List ℕ) → 512 * (a + k) ≤ length work → length d ≤ 512 * k → take (512 * k) (drop (512 * a) (putContent a k d work)) ≡ pad (512 * k) d
-unfolding putContent pad
-content-there a zero [] work l e = refl
-content-there a zero (x ∷ d) work l e = absurd (omega arith)
-content-there a (suc k) d work l e = range-same work (512 * a) (512 * suc k) (pad (512 * suc k) d) (pad-length (512 * suc k) d e) (omega arith)
+content-there : (r : Run) (d work : List ℕ) → 512 * (r .start .0 + r .sectors) ≤ length work → length d ≤ 512 * r .sectors
+    → take (512 * r .sectors) (drop (512 * r .start .0) (putContent r d work)) ≡ pad (512 * r .sectors) d
+unfolding putContent
+content-there r d work l e = range-same work (512 * r .start .0) (512 * r .sectors) (pad (512 * r .sectors) d) (pad-length (512 * r .sectors) d e) (omega arith)
 
 -- ---- one change of an entry
 
-module _ (s : Opened) (j a k : ℕ) (v : Version) (work n d : List ℕ) (R : Ready s j a k v work n d (sec work)) (C : CanEdit s work j a k n d)
-    (free : (i : ℕ) → a ≤ i → i < a + k → cover (filesOf (tpOf s work) (entriesOf (s .geo) (sec work))) i ≡ 0)
-    (is : (runOf v .start .0 ≡ a) × (runOf v .sectors ≡ k)) where
+module _ (s : Opened) (j a k : ℕ) (v : Version) (work n d : List ℕ) (R : Ready s j a k v work n d (sec work)) (C : CanEdit s work j (runOf v) n d)
+    (free : (i : ℕ) → a ≤ i → i < a + k → cover (filesOf (tpOf s work) (entriesOf (s .geo) (sec work))) i ≡ 0) where
   abbrev g : Geo
   g = s .geo
 
   abbrev after : List ℕ
-  after = editWork s j a k v work n d
+  after = editWork s j v work n d
 
   same-others : (i : ℕ) → gF g ≤ i → ¬ InRun a k i → sec after i ≡ sec work i
   unfolding gF
@@ -59,12 +58,11 @@ module _ (s : Opened) (j a k : ℕ) (v : Version) (work n d : List ℕ) (R : Rea
       left-alone s j a k v work n d (sec work) R i (omega (arith, spot s j a k v work n d (sec work) R .high)) (omega (arith, past-index g)) (λ q. omega (arith, q .1)) o
 
   content-now : piecesIn after (piecesOf (runOf v)) ≡ pad (512 * runOf v .sectors) d
-  content-now = run-bytes after (runOf v) ∙ rw (is .0, is .1) run-now
+  content-now =
+      run-bytes after (runOf v) ∙ flat-same after (putContent (runOf v) d work) (runOf v .sectors) (runOf v .start .0) same ∙ content-there (runOf v) d work (C .room) (C .enough)
     where
-      run-now : take (512 * k) (drop (512 * a) after) ≡ pad (512 * k) d
-      run-now =
-          flat-same after (putContent a k d work) k a (λ i lo hi. data-put s j a k v work n d (sec work) R i (R .inside i lo hi))
-          ∙ content-there a k d work (C .room) (R .enough)
+      same : (i : ℕ) → runOf v .start .0 ≤ i → i < runOf v .start .0 + runOf v .sectors → sec after i ≡ sec (putContent (runOf v) d work) i
+      same i lo hi = data-put s j a k v work n d (sec work) R i (R .inside i (omega (arith, R .is .0)) (omega (arith, R .is .0, R .is .1)))
 
   -- ---- the map that the cut view shows
 
@@ -78,13 +76,13 @@ module _ (s : Opened) (j a k : ℕ) (v : Version) (work n d : List ℕ) (R : Rea
   entries-are = rw (present-live s (sec work) (R .live)) (entries-now s j a k v work n d (sec work) R)
 
   new : (i : ℕ) → FileHolds (runOf v) i ↔ InRun a k i
-  new = holds-new s work j a k v (R .live) is
+  new = holds-new s work j a k v (R .live) (R .is)
 
   old : (i : ℕ) → FileHolds (earlierRun s work j) i ↔ InRun (oldRun s j work .start .0) (oldRun s j work .sectors) i
-  old = holds-old s work j a k v (R .live) is
+  old = holds-old s work j a k v (R .live) (R .is)
 
   changes : (q : ℕ) → ((0 < k) × (q ≡ a / 4096)) ⊎ ((0 < oldRun s j work .sectors) × (q ≡ oldRun s j work .start .0 / 4096)) → Changes s work j v q
-  changes = runs-change s work j a k v (R .live) is
+  changes = runs-change s work j a k v (R .live) (R .is)
 
   pub edit-untouched : Untouched s j v work n d after
   edit-untouched =
@@ -109,15 +107,15 @@ unfolding putWork
 put-untouched s work n d goal j a h =
     let p = put-inv s work n d goal j a h in
     edit-untouched s j a (sectorsFor (length d)) (Present (putRun a d)) work n d (put-ready s work (sec work) refl n d goal j a h)
-    (can-put s work n d goal j a (p .fit) (p .name) (p .entry) (p .run) refl)
-    (run-free s work (fit-inv s work (p .fit)) (p .live) (sectorsFor (length d)) goal a (p .run)) (unfold runOf putRun in (refl, refl))
+    (unfold runOf in can-put s work n d goal j a (p .fit) (p .name) (p .entry) (p .run))
+    (run-free s work (fit-inv s work (p .fit)) (p .live) (sectorsFor (length d)) goal a (p .run))
 
 pub remove-untouched : (s : Opened) (work n : List ℕ) (j a : ℕ) → removePlan s work n ≡ doIt j a → Untouched s j Absent work n [] (removeWork s j work n)
 unfolding removeWork
 remove-untouched s work n j a h =
     let p = remove-inv s work n j a h in
     edit-untouched s j 0 0 Absent work n [] (remove-ready s work (sec work) refl n j a h) (can-remove s work n j (p .fit) (p .name) (p .entry))
-    (λ i lo hi. absurd (omega arith)) (unfold runOf in (refl, refl))
+    (λ i lo hi. absurd (omega arith))
 
 -- ---- as the calls answer: 0 goes with an entry and a run, and the call leaves the image so changed
 

@@ -42,7 +42,7 @@ module _ (s : Opened) (j a k : ℕ) (v : Version) (work n d : List ℕ) (k₀ : 
       let r = shown-range g p (tcOf s work) (groupOf (indexAt s work) p) (paired s work (R .fit) (R .live) .pair p l) in
       omega (arith, r .0, r .1)
 
-  page-wrote : (i : ℕ) → g .t + 2 ≤ i → i < gDir g → Dec (i ≡ shownPage (tcOf s work) (groupOf (indexAt s work) ((i - (g .t + 2)) / 2))) → Wrote g (ownOf s) k₀ (sec work) (sec (editWork s j a k v work n d)) i
+  page-wrote : (i : ℕ) → g .t + 2 ≤ i → i < gDir g → Dec (i ≡ shownPage (tcOf s work) (groupOf (indexAt s work) ((i - (g .t + 2)) / 2))) → Wrote g (ownOf s) k₀ (sec work) (sec (editWork s j v work n d)) i
   page-wrote i lo hi (yes e) = stays (rw e (page-kept s j a k v work n d k₀ R ((i - (g .t + 2)) / 2) (pair-of i lo hi)))
   page-wrote i lo hi (no o) =
       loose
@@ -56,7 +56,7 @@ module _ (s : Opened) (j a k : ℕ) (v : Version) (work n d : List ℕ) (k₀ : 
         held = λ h. omega (arith, inData i h, dir-data g);
       })
 
-  run-wrote : (i : ℕ) → a ≤ i → i < a + k → Wrote g (ownOf s) k₀ (sec work) (sec (editWork s j a k v work n d)) i
+  run-wrote : (i : ℕ) → a ≤ i → i < a + k → Wrote g (ownOf s) k₀ (sec work) (sec (editWork s j v work n d)) i
   run-wrote i lo hi =
       let f = R .inside i lo hi in
       loose
@@ -67,7 +67,7 @@ module _ (s : Opened) (j a k : ℕ) (v : Version) (work n d : List ℕ) (k₀ : 
         held = R .clear i lo hi;
       })
 
-  entry-wrote : Wrote g (ownOf s) k₀ (sec work) (sec (editWork s j a k v work n d)) (spotOf g j .sector)
+  entry-wrote : Wrote g (ownOf s) k₀ (sec work) (sec (editWork s j v work n d)) (spotOf g j .sector)
   entry-wrote =
       entry
       (record {
@@ -79,13 +79,13 @@ module _ (s : Opened) (j a k : ℕ) (v : Version) (work n d : List ℕ) (k₀ : 
         step = (rw tab≡ (λ p₀ q. step p₀ (subst (λ (x : List ℕ). EntrySame g (tcOf s work) (ownOf s) p₀ x) (sym (spot-is s j a k v work n d k₀ R)) q)));
       })
 
-  index-wrote : Wrote g (ownOf s) k₀ (sec work) (sec (editWork s j a k v work n d)) (g .t + 1)
+  index-wrote : Wrote g (ownOf s) k₀ (sec work) (sec (editWork s j v work n d)) (g .t + 1)
   index-wrote = index refl (rw tab≡ (unfold indexIn in index-same s j a k v work n d k₀ R))
 
-  pub wrote : (i : ℕ) → Wrote g (ownOf s) k₀ (sec work) (sec (editWork s j a k v work n d)) i
+  pub wrote : (i : ℕ) → Wrote g (ownOf s) k₀ (sec work) (sec (editWork s j v work n d)) i
   wrote i = go (ℕ-discrete i (spotOf g j .sector)) (ℕ-discrete i (g .t + 1)) (decLt i (g .t + 2)) (decLt i (gDir g)) (decLt i a) (decLt i (a + k))
     where
-      go : Dec (i ≡ spotOf g j .sector) → Dec (i ≡ g .t + 1) → Dec (i < g .t + 2) → Dec (i < gDir g) → Dec (i < a) → Dec (i < a + k) → Wrote g (ownOf s) k₀ (sec work) (sec (editWork s j a k v work n d)) i
+      go : Dec (i ≡ spotOf g j .sector) → Dec (i ≡ g .t + 1) → Dec (i < g .t + 2) → Dec (i < gDir g) → Dec (i < a) → Dec (i < a + k) → Wrote g (ownOf s) k₀ (sec work) (sec (editWork s j v work n d)) i
       go (yes e) d₁ d₂ d₃ d₄ d₅ = rw e entry-wrote
       go (no e) (yes f) d₂ d₃ d₄ d₅ = rw f index-wrote
       go (no e) (no f) (no x) (yes y) d₄ d₅ = page-wrote i (omega arith) y (ℕ-discrete i _)

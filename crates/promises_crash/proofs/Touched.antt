@@ -74,7 +74,7 @@ module _ (s : Opened) (j a k : ℕ) (v : Version) (card work n d : List ℕ) (p 
   g = s .geo
 
   abbrev newWork : List ℕ
-  newWork = editWork s j a k v work n d
+  newWork = editWork s j v work n d
 
   -- a sector that it does not hit
   not-hit : (i : ℕ) → gDir g ≤ i → hitBy s j a k i ≡ false → sec newWork i ≡ sec work i

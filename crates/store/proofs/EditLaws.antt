@@ -1,8 +1,7 @@
 -- The writes of a change one after the other: content, entry, bitmap. The first two leave table and index as they are. Assumes nothing.
-use mathlib.Core.Path.{_≡_, refl, sym, ap, _∙_}
-use mathlib.Core.Logic.{_≢_}
+use mathlib.Core.Path.{_≡_, sym, ap, _∙_}
 use mathlib.Core.List.{List, []}
-use Prim.Native.Nat.{ℕ, zero, suc, _+_, _-_, _*_, _≤_, _<_}
+use Prim.Native.Nat.{ℕ, _+_, _-_, _*_, _≤_, _<_}
 use native.Mathlib.Omega.{arith}
 use lib.ListN.{length, take, getD, set, replicate, getD-replicate, length-replicate}
 use lib.Seq.{take-all}
@@ -26,7 +25,7 @@ use Rattle.directory.specs.Directory.{entriesOf, spotOf, setEntry}
 use Rattle.directory.proofs.DirectoryLaws.{entries-lt}
 use Rattle.directory.proofs.SpotLaws.{SpotOk, at-spot, entry-length, entry-other}
 use Rattle.apages.specs.Index.{indexIn, changeBits}
-use Rattle.card.specs.Files.{runAt}
+use Rattle.card.specs.Files.{runOf, runAt}
 use Rattle.session.specs.declared.Opened.{Opened}
 use Rattle.session.specs.Views.{ownStamp, presentView, presentTable}
 use Rattle.store.specs.Edit.{putContent, editWork}
@@ -55,36 +54,28 @@ zeros-end s t at n i h e = e ∙ ap (λ (l : List ℕ). splice s at l) (take-all
 
 -- ---- the content
 
-pub content-none : (a k : ℕ) (d img : List ℕ) → k ≡ 0 → img ≡ putContent a k d img
-unfolding putContent
-content-none a zero d img h = refl
-content-none a (suc k) d img h = absurd (omega arith)
-
 -- "The last sector is filled with zeros."
-pub content-put : (a k : ℕ) (d img : List ℕ) {t u : List ℕ} → k ≢ 0 → t ≡ splice img (512 * a) d → u ≡ splice t (512 * a + length d) (replicate (512 * k - length d) 0)
-    → u ≡ putContent a k d img
+pub content-put : (r : Run) (d img : List ℕ) {t u : List ℕ} → t ≡ splice img (512 * r .start .0) d
+    → u ≡ splice t (512 * r .start .0 + length d) (replicate (512 * r .sectors - length d) 0) → u ≡ putContent r d img
 unfolding putContent pad
-content-put a zero d img h e f = absurd (h refl)
-content-put a (suc k) d img h e f = f ∙ rw e (splice-then img (512 * a) d _)
+content-put r d img e f = f ∙ rw e (splice-then img (512 * r .start .0) d _)
 
-pub content-length : (a k : ℕ) (d img : List ℕ) → length (putContent a k d img) ≡ length img
+pub content-length : (r : Run) (d img : List ℕ) → length (putContent r d img) ≡ length img
 unfolding putContent
-content-length a zero d img = refl
-content-length a (suc k) d img = splice-length img (512 * a) _
+content-length r d img = splice-length img (512 * r .start .0) _
 
-pub content-other : (a k : ℕ) (d img : List ℕ) → length d ≤ 512 * k → (i : ℕ) → ¬ ((a ≤ i) × (i < a + k)) → sec (putContent a k d img) i ≡ sec img i
+pub content-other : (r : Run) (d img : List ℕ) → length d ≤ 512 * r .sectors → (i : ℕ) → ¬ ((r .start .0 ≤ i) × (i < r .start .0 + r .sectors)) → sec (putContent r d img) i ≡ sec img i
 unfolding putContent
-content-other a zero d img h i o = refl
-content-other a (suc k) d img h i o = run-other img a (suc k) (pad (512 * suc k) d) i (pad-length (512 * suc k) d h) o
+content-other r d img h i o = run-other img (r .start .0) (r .sectors) (pad (512 * r .sectors) d) i (pad-length (512 * r .sectors) d h) o
 
 -- ---- content and entry, then the bitmap
 
-module _ (s : Opened) (work n d : List ℕ) (j a k : ℕ) (v : Version) (C : CanEdit s work j a k n d) where
+module _ (s : Opened) (work n d : List ℕ) (j : ℕ) (v : Version) (C : CanEdit s work j (runOf v) n d) where
   abbrev newEntry : Entry
   newEntry = changed (presentTable s (sec work)) (ownStamp s) (entryOf (getD (entriesOf (s .geo) (sec work)) j [])) n v
 
   abbrev withEntry : List ℕ
-  withEntry = setEntry (spotOf (s .geo) j) (entryBytes newEntry) (putContent a k d work)
+  withEntry = setEntry (spotOf (s .geo) j) (entryBytes newEntry) (putContent (runOf v) d work)
 
   entry-wide : length (entryBytes newEntry) ≡ 128
   unfolding changed
@@ -93,21 +84,21 @@ module _ (s : Opened) (work n d : List ℕ) (j a k : ℕ) (v : Version) (C : Can
   spot : SpotOk (gDir (s .geo)) (gDir (s .geo) + s .geo .d) (spotOf (s .geo) j)
   spot = at-spot (s .geo) (sec work) j [] (entries-lt (s .geo) work j (C .below)) .0
 
-  spot-room : 512 * spotOf (s .geo) j .sector + 512 ≤ length (putContent a k d work)
-  spot-room = omega (arith, content-length a k d work, spot .high, C .laid .room)
+  spot-room : 512 * spotOf (s .geo) j .sector + 512 ≤ length (putContent (runOf v) d work)
+  spot-room = omega (arith, content-length (runOf v) d work, spot .high, C .laid .room)
 
   with-length : length withEntry ≡ length work
-  with-length = entry-length (spotOf (s .geo) j) (entryBytes newEntry) (putContent a k d work) spot-room (spot .four) entry-wide ∙ content-length a k d work
+  with-length = entry-length (spotOf (s .geo) j) (entryBytes newEntry) (putContent (runOf v) d work) spot-room (spot .four) entry-wide ∙ content-length (runOf v) d work
 
   -- the table and the index stay as they are
   kept : (i : ℕ) → i < gDir (s .geo) → sec withEntry i ≡ sec work i
   kept i h =
-      entry-other (spotOf (s .geo) j) (entryBytes newEntry) (putContent a k d work) spot-room (spot .four) entry-wide i (λ e. omega (arith, spot .low))
-      ∙ content-other a k d work (C .enough) i (λ q. omega (arith, C .inside (omega (arith, q .0, q .1)), q .0))
+      entry-other (spotOf (s .geo) j) (entryBytes newEntry) (putContent (runOf v) d work) spot-room (spot .four) entry-wide i (λ e. omega (arith, spot .low))
+      ∙ content-other (runOf v) d work (C .enough) i (λ q. omega (arith, C .inside (omega (arith, q .0, q .1)), q .0))
 
-  module _ {e : Entry} {w₁ w₂ : List ℕ} (ee : e ≡ newEntry) (e₁ : w₁ ≡ putContent a k d work) (e₂ : w₂ ≡ setEntry (spotOf (s .geo) j) (entryBytes e) w₁) where
+  module _ {run : Run} {e : Entry} {w₁ w₂ : List ℕ} (er : run ≡ runOf v) (ee : e ≡ newEntry) (e₁ : w₁ ≡ putContent run d work) (e₂ : w₂ ≡ setEntry (spotOf (s .geo) j) (entryBytes e) w₁) where
     with-is : w₂ ≡ withEntry
-    with-is = e₂ ∙ rw (ee, e₁)
+    with-is = e₂ ∙ rw (ee, e₁, er)
 
     pub edit-laid : LaidOut (s .geo) w₂
     edit-laid =
@@ -124,6 +115,6 @@ module _ (s : Opened) (work n d : List ℕ) (j a k : ℕ) (v : Version) (C : Can
 
     pub edit-done : {view : View} {own : Stamp} {earlier : Run} {w₃ : List ℕ} → view ≡ presentView s → own ≡ ownStamp s
         → earlier ≡ runAt (s .geo) (presentTable s (sec work)) work j
-        → w₃ ≡ changeBits (s .geo) (tableIn (s .geo) view (sec w₂)) own a k (earlier .start .0) (earlier .sectors) w₂ → w₃ ≡ editWork s j a k v work n d
+        → w₃ ≡ changeBits (s .geo) (tableIn (s .geo) view (sec w₂)) own run earlier w₂ → w₃ ≡ editWork s j v work n d
     unfolding editWork
-    edit-done ev eo er e₃ = e₃ ∙ rw (ev, eo, er, with-is, table)
+    edit-done ev eo ea e₃ = e₃ ∙ rw (ev, eo, er, ea, with-is, table)

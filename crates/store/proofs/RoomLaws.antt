@@ -5,6 +5,7 @@ use mathlib.Core.List.{List, []}
 use Prim.Native.Nat.{ℕ, zero, suc, _+_, _-_, _*_, _%_, _≤_, _<_}
 use native.Mathlib.Omega.{arith}
 use lib.ListN.{length}
+use Rattle.words.specs.declared.Found.{Found}
 use Rattle.words.specs.declared.Found.the-variants.{At}
 use Rattle.words.specs.Lists.{firstAt}
 use Rattle.words.proofs.FirstLaws.{at-one, found-at}
@@ -30,7 +31,7 @@ use Rattle.session.specs.declared.Opened.{Opened}
 use Rattle.session.specs.Views.{presentTable, cutTable, presentPage, cutPage}
 use Rattle.session.specs.Fits.{fits}
 use Rattle.session.proofs.FitLaws.{Fit, fit-inv}
-use Rattle.store.specs.Edit.{placeIn, runIn}
+use Rattle.store.specs.Edit.{placeIn, runIn, putRun}
 use Rattle.store.proofs.ViewLaws.{fit-laid, fit-pair}
 use Rattle.store.specs.Inner.{CanEdit}
 use Rattle.store.proofs.PlaceLaws.{place-named}
@@ -118,10 +119,11 @@ module _ (s : Opened) (work : List ℕ) (F : Fit s work) where
       (arith, entries-length (s .geo) work, place-named (presentTable s (sec work)) (cutTable s (sec work)) n (entriesOf (s .geo) (sec work)) j h .below)
 
   -- what put's tests showed is what its change asks
-  put-able : (j goal a k : ℕ) (n d : List ℕ) → fits s work ≡ true → goodName n ≡ true → placeIn s work n ≡ At j → runIn s work k goal ≡ At a → k ≡ sectorsFor (length d)
-      → CanEdit s work j a k n d
-  unfolding sectorsFor gF
-  put-able j goal a k n d f g p r e =
+  put-able : (j goal a : ℕ) (n d : List ℕ) → fits s work ≡ true → goodName n ≡ true → placeIn s work n ≡ At j → runIn s work (sectorsFor (length d)) goal ≡ At a
+      → CanEdit s work j (putRun a d) n d
+  unfolding putRun gF
+  put-able j goal a n d f g p r =
+      let k = sectorsFor (length d) in
       let room = run-room-in k goal a r in
       let below = place-below n j p in
       record {
@@ -129,7 +131,7 @@ module _ (s : Opened) (work : List ℕ) (F : Fit s work) where
         pair = fit-pair s work f;
         below = below;
         short = short-name n g;
-        enough = omega (arith, e);
+        enough = unfold sectorsFor in omega arith;
         top = omega (arith, L .covered);
         page = run-page-in k goal a r;
         room = omega (arith, F .sized);
@@ -138,7 +140,8 @@ module _ (s : Opened) (work : List ℕ) (F : Fit s work) where
         earlierPage = earlier-page j below;
       }
 
-  remove-able : (j : ℕ) (n : List ℕ) → fits s work ≡ true → goodName n ≡ true → j < 4 * s .geo .d → CanEdit s work j 0 0 n []
+  remove-able : (j : ℕ) (n : List ℕ) → fits s work ≡ true → goodName n ≡ true → j < 4 * s .geo .d → CanEdit s work j (runOf Absent) n []
+  unfolding runOf
   remove-able j n f g below =
       record {
         laid = fit-laid s work f;
@@ -154,12 +157,17 @@ module _ (s : Opened) (work : List ℕ) (F : Fit s work) where
         earlierPage = earlier-page j below;
       }
 
-pub can-put : (s : Opened) (work n d : List ℕ) (goal j a : ℕ) {k : ℕ} → fits s work ≡ true → goodName n ≡ true → placeIn s work n ≡ At j
-    → runIn s work (sectorsFor (length d)) goal ≡ At a → k ≡ sectorsFor (length d) → CanEdit s work j a k n d
-can-put s work n d goal j a {k} f g p r e = put-able s work (fit-inv s work f) j goal a k n d f g p (rw e r) e
+pub can-put : (s : Opened) (work n d : List ℕ) (goal j a : ℕ) → fits s work ≡ true → goodName n ≡ true → placeIn s work n ≡ At j
+    → runIn s work (sectorsFor (length d)) goal ≡ At a → CanEdit s work j (putRun a d) n d
+can-put s work n d goal j a f g p r = put-able s work (fit-inv s work f) j goal a n d f g p r
+
+-- the sector that code found is one of the card
+pub run-small : (s : Opened) (work : List ℕ) (k goal a : ℕ) {r : Found} → fits s work ≡ true → r ≡ runIn s work k goal → r ≡ At a → a ≤ 65536
+run-small s work k goal a f er ea =
+    let F = fit-inv s work f in omega (arith, run-room-in s work F k goal a (sym er ∙ ea), limits (s .geo) (F .shape) .sHigh)
 
 pub can-remove : (s : Opened) (work n : List ℕ) (j : ℕ) → fits s work ≡ true → goodName n ≡ true
-    → firstAt (named (presentTable s (sec work)) (presentTable s (sec work)) n) 0 (entriesOf (s .geo) (sec work)) ≡ At j → CanEdit s work j 0 0 n []
+    → firstAt (named (presentTable s (sec work)) (presentTable s (sec work)) n) 0 (entriesOf (s .geo) (sec work)) ≡ At j → CanEdit s work j (runOf Absent) n []
 can-remove s work n j f g h =
     let b = found-at (named (presentTable s (sec work)) (presentTable s (sec work)) n) [] (entriesOf (s .geo) (sec work)) j h .0 in
     remove-able s work (fit-inv s work f) j n f g (omega (arith, entries-length (s .geo) work))

@@ -1,7 +1,7 @@
 -- put with a goal: 4, 2, 9, 5, 11, 7, 8; put without one: "4, 2, 9, 5, 7, 8"; remove: "4, 2, 9, 5, 6". Assumes nothing.
 use mathlib.Core.Bool.{not}
 use mathlib.Core.List.{List, []}
-use Prim.Native.Nat.{ℕ, zero, suc, _*_}
+use Prim.Native.Nat.{ℕ, _*_}
 use lib.ListN.{length, getD}
 use lib.Dec.{ltb}
 use Rattle.words.specs.declared.Found.{Found}
@@ -15,7 +15,7 @@ use Rattle.directory.specs.Directory.{entriesOf, spotOf, setEntry, gone, named}
 use Rattle.apages.specs.Runs.{runFor}
 use Rattle.apages.specs.Index.{changeBits}
 use Rattle.card.specs.Plan.{Plan, guard, need, ended, doIt, refused, done, Changed}
-use Rattle.card.specs.Files.{runAt}
+use Rattle.card.specs.Files.{runOf, runAt}
 use Rattle.session.specs.declared.Opened.{Opened}
 use Rattle.session.specs.declared.Session.{Session}
 use Rattle.session.specs.declared.Session.the-variants.{Closed, Open}
@@ -40,24 +40,23 @@ putPlan s work n d goal =
     (need 7 (placeIn s work n) (λ j. need 8 (runIn s work (sectorsFor (length d)) goal) (λ a. doIt j a))))))
 
 -- "Content goes to the lowest run ..; The last sector is filled with zeros."
-unfoldable pub putContent : ℕ → ℕ → List ℕ → List ℕ → List ℕ
-putContent a zero d img = img
-putContent a (suc k) d img = splice img (512 * a) (pad (512 * suc k) d)
+unfoldable pub putContent : Run → List ℕ → List ℕ → List ℕ
+putContent r d img = splice img (512 * r .start .0) (pad (512 * r .sectors) d)
 
--- entry j gets name n and version v; k sectors of content d go to sector a; "the file's earlier sectors, if any, are cleared"
-unfoldable pub editWork : Opened → ℕ → ℕ → ℕ → Version → List ℕ → List ℕ → List ℕ → List ℕ
-editWork s j a k v work n d =
+-- entry j gets name n and version v; content d goes to v's run; "the file's earlier sectors, if any, are cleared"
+unfoldable pub editWork : Opened → ℕ → Version → List ℕ → List ℕ → List ℕ → List ℕ
+editWork s j v work n d =
     let tp = presentTable s (sec work) in
     let e = entryOf (getD (entriesOf (s .geo) (sec work)) j []) in
-    let earlier = runAt (s .geo) tp work j in
-    changeBits (s .geo) tp (ownStamp s) a k (earlier .start .0) (earlier .sectors)
-    (setEntry (spotOf (s .geo) j) (entryBytes (changed tp (ownStamp s) e n v)) (putContent a k d work))
+    changeBits (s .geo) tp (ownStamp s) (runOf v) (runAt (s .geo) tp work j)
+    (setEntry (spotOf (s .geo) j) (entryBytes (changed tp (ownStamp s) e n v)) (putContent (runOf v) d work))
 
+-- the run of content d from sector a on
 unfoldable pub putRun : ℕ → List ℕ → Run
 putRun a d = record { start = record { 0 = a }; sectors = sectorsFor (length d); bytes = length d }
 
 unfoldable pub putWork : Opened → ℕ → ℕ → List ℕ → List ℕ → List ℕ → List ℕ
-putWork s j a work n d = editWork s j a (sectorsFor (length d)) (Present (putRun a d)) work n d
+putWork s j a work n d = editWork s j (Present (putRun a d)) work n d
 
 -- "Put takes a goal sector"
 unfoldable pub putAt : Session → List ℕ → List ℕ → List ℕ → ℕ → Changed
@@ -77,7 +76,7 @@ removePlan s work n =
 
 -- "Remove writes an absent new version."
 unfoldable pub removeWork : Opened → ℕ → List ℕ → List ℕ → List ℕ
-removeWork s j work n = editWork s j 0 0 Absent work n []
+removeWork s j work n = editWork s j Absent work n []
 
 unfoldable pub remove : Session → List ℕ → List ℕ → Changed
 remove Closed work n = record { answer = refused 4; image = work }

@@ -9,6 +9,7 @@ use Rattle.sectors.specs.Sectors.{sec, leanWrites}
 use Rattle.counts.specs.Geometry.{gP, gF, geoOf, countOf, tableOf}
 use Rattle.counts.specs.Inner.{LaidOut}
 use Rattle.counts.specs.Stamps.{maxTx}
+use Rattle.entries.specs.declared.Run.{Run}
 use Rattle.apages.specs.Inner.{PairIn}
 use Rattle.card.specs.Files.{runAt}
 use Rattle.session.specs.declared.Opened.{Opened}
@@ -18,17 +19,17 @@ use Rattle.session.specs.declared.Session.{Session}
 use Rattle.session.specs.declared.Session.the-variants.{Closed, Open}
 use Rattle.store.specs.Steps.{pastTable, allSteps}
 
--- what a change of entry j asks: k sectors of content d at sector a, name n
-pub record CanEdit (s : Opened) (work : List ℕ) (j a k : ℕ) (n d : List ℕ) : Type 0 where
+-- what a change of entry j asks: content d for run r, name n
+pub record CanEdit (s : Opened) (work : List ℕ) (j : ℕ) (r : Run) (n d : List ℕ) : Type 0 where
   pub laid : LaidOut (s .geo) work
   pub pair : PairIn (s .geo) work
   pub below : j < 4 * s .geo .d
   pub short : length n ≤ 32
-  pub enough : length d ≤ 512 * k
-  pub top : a + k ≤ 4096 * gP (s .geo)
-  pub page : a % 4096 + k ≤ 4096
-  pub room : 512 * (a + k) ≤ length work
-  pub inside : 0 < k → gF (s .geo) ≤ a
+  pub enough : length d ≤ 512 * r .sectors
+  pub top : r .start .0 + r .sectors ≤ 4096 * gP (s .geo)
+  pub page : r .start .0 % 4096 + r .sectors ≤ 4096
+  pub room : 512 * (r .start .0 + r .sectors) ≤ length work
+  pub inside : 0 < r .sectors → gF (s .geo) ≤ r .start .0
   pub earlier : runAt (s .geo) (presentTable s (sec work)) work j .start .0 + runAt (s .geo) (presentTable s (sec work)) work j .sectors ≤ 4096 * gP (s .geo)
   pub earlierPage : runAt (s .geo) (presentTable s (sec work)) work j .start .0 % 4096 + runAt (s .geo) (presentTable s (sec work)) work j .sectors ≤ 4096
 

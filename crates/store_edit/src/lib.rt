@@ -49,7 +49,8 @@ pub fn put_at_fitting(
     let Found::At(a) = run_in(s, work, k, goal) else {
         return refusal(8);
     };
-    put_in(s, work, name, content, j, a);
+    let start = a as u32;
+    put_in(s, work, name, content, j, Sector(start));
     success(0)
 }
 

@@ -79,7 +79,7 @@ module _ (s : Opened) (j a k : ℕ) (v : Version) (work n d : List ℕ) (M : Mad
   x = entryFor s j v work n
 
   abbrev after : List ℕ
-  after = editWork s j a k v work n d
+  after = editWork s j v work n d
 
   F : Fit s work
   F = R .fit

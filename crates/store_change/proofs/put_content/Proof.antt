@@ -1,11 +1,8 @@
--- Nothing for no sectors; else the content and the zeros behind it are one splice. Assumes nothing.
+-- The content and the zeros behind it are one splice. Assumes nothing.
 use borrow.Author.Needs.{needs}
-use Rattle.store.proofs.EditLaws.{content-none, content-put}
+use Rattle.store.proofs.EditLaws.{content-put}
 use Rattle.store_change.proofs.put_content.Statement.{statement}
 use Rattle.store_change.proofs.put_content.Tie as tie
-
-returns : tie.Need-returns
-returns c = content-none _ _ _ _ (c .if1 .taken)
 
 cast-at : tie.Need-cast-at
 cast-at c = search needs
@@ -15,6 +12,9 @@ mul-at c = search needs
 
 add-end : tie.Need-add-end
 add-end c = search needs
+
+cast-rest : tie.Need-cast-rest
+cast-rest c = search needs
 
 mul-rest : tie.Need-mul-rest
 mul-rest c = search needs
@@ -31,20 +31,20 @@ put-zeros-requires c κs = search needs
 same-length : tie.Need-same-length
 same-length c = search needs
 
-returns-2 : tie.Need-returns-2
-returns-2 c = content-put _ _ _ _ (c .before .before .before .before .before .before .before .before .before .if1 .left) (c .before .before .before .before .before .before .put-bytes .ensures) (c .before .before .put-zeros .ensures)
+returns : tie.Need-returns
+returns c = content-put _ _ _ (c .before .before .before .before .before .before .put-bytes .ensures) (c .before .before .put-zeros .ensures)
 
 pub put-content-spec : {M : Type 1} → statement M
 put-content-spec =
     tie.close
     (tie.spec
-    returns
     cast-at
     mul-at
     add-end
+    cast-rest
     mul-rest
     sub-rest
     put-bytes-requires
     put-zeros-requires
     same-length
-    returns-2)
+    returns)
