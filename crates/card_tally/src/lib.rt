@@ -1,7 +1,7 @@
 // The bitmap's rule, tested with no map: from the ones of the bitmap's words and the files' own runs.
 ghost use mathlib.Core.Path.{_≡_};
-ghost use Prim.Native.Nat.{_+_, _*_, _%_, _≤_, _<_};
-ghost use lib.ListN.{drop};
+ghost use Prim.Native.Nat.{_+_, _*_, _/_, _%_, _≤_, _<_};
+ghost use lib.ListN.{length, drop};
 ghost use Rattle.words.specs.Lists.{every, pairwise};
 ghost use Rattle.sectors.specs.Sectors.{sec};
 ghost use Rattle.counts.specs.Geometry.{gP};
@@ -16,17 +16,25 @@ ghost use Rattle.card.specs.Files.{filesOf, cover, sectorsOf};
 ghost use Rattle.card.specs.Inner.{RunsOk};
 ghost use Rattle.card.specs.Tally.{heldBy, partedFrom, partedIn, fixedBits};
 ghost use Rattle.card_order.specs.Inner.{Walked};
+ghost use Rattle.card_tally.specs.Inner.{IsShown};
 use card_files::run_at;
 use card_order::Walk;
 use counts::Geo;
 use counts::View;
 use entries::Run;
+use sectors::Sector;
 
 // What one walk over the shown runs finds: whether their bits are set, their sectors, and the walk over those that lie one after another.
 struct Tally {
     set: bool,
     sectors: u32,
     own: Walk,
+}
+
+// The page of a pair.
+struct Page {
+    pair: u32,
+    at: Sector,
 }
 
 // How many of n bits lie below F or from S up.
@@ -55,18 +63,51 @@ fn held(card: &[u8], g: Geo, v: View, a: u32, k: u32) -> bool
     apages_ones::run_set(&card[at..end], (a % 4096) as usize, k as usize)
 }
 
+// The page of a run's pair: the one known, where it is of that pair or the run has no sectors.
+fn page_of(card: &[u8], g: Geo, v: View, known: Page, r: Run) -> Page
+    requires { ⌜ LaidOut g (now card) × ((r .start .0 + r .sectors ≤ 4096 * gP g) × IsShown g (tableIn g v (sec (now card))) (sec (now card)) known) ⌝ }
+    ensures { λ q. ⌜ IsShown g (tableIn g v (sec (now (card .entry)))) (sec (now (card .entry))) q × (0 < r .sectors → q .pair ≡ r .start .0 / 4096) ⌝ }
+{
+    if r.sectors == 0 {
+        return known;
+    }
+    let pair = r.start.0 / 4096;
+    if pair == known.pair {
+        return known;
+    }
+    let at = card_files::page_at(card, g, v, pair);
+    Page { pair, at }
+}
+
+// Whether the bits of a run are set in the page of its pair.
+fn page_held(card: &[u8], page: Page, r: Run) -> bool
+    requires { ⌜ (512 * page .at .0 + 512 ≤ length (now card)) × (r .start .0 % 4096 + r .sectors ≤ 4096) ⌝ }
+    ensures { λ b. ⌜ b ≡ allSet (sec (now (card .entry)) (page .at .0)) (r .start .0 % 4096) (r .sectors) ⌝ }
+{
+    let at = 512 * (page.at.0 as usize);
+    let end = at + 512;
+    apages_ones::run_set(
+        &card[at..end],
+        (r.start.0 % 4096) as usize,
+        r.sectors as usize,
+    )
+}
+
 // One walk over the shown runs: whether their bits are set, their sectors, and how far they lie one after another in the order of their entries.
 fn tally_of(card: &[u8], g: Geo, v: View) -> Tally
     requires { ⌜ LaidOut g (now card) × (PairIn g (now card) × RunsOk g (tableIn g v (sec (now card))) (entriesOf g (sec (now card)))) ⌝ }
     ensures { λ r. ⌜ (r .set ≡ every (heldBy (tableIn g v (sec (now (card .entry)))) (pageIn g (tableIn g v (sec (now (card .entry)))) (sec (now (card .entry))))) (entriesOf g (sec (now (card .entry))))) × ((r .sectors ≡ sectorsOf (filesOf (tableIn g v (sec (now (card .entry)))) (entriesOf g (sec (now (card .entry)))))) × ((r .sectors ≤ 16777216) × Walked g (filesOf (tableIn g v (sec (now (card .entry)))) (entriesOf g (sec (now (card .entry))))) (r .own))) ⌝ }
 {
+    let first = card_files::page_at(card, g, v, 0);
+    let mut page = Page { pair: 0, at: first };
     let mut set = true;
     let mut sectors: u32 = 0;
     let mut own = Walk { end: 0, sum: 0 };
     let mut j = 0;
     while j < 4 * (g.d as usize) {
         let r = run_at(card, g, v, j);
-        set = set & held(card, g, v, r.start.0, r.sectors);
+        page = page_of(card, g, v, page, r);
+        set = set & page_held(card, page, r);
         sectors += r.sectors;
         own = card_order::step(own, r);
         j += 1;
