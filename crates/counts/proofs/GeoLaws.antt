@@ -33,6 +33,11 @@ pub record Limits (g : Geo) : Type 0 where
   pub dLow : 1 ≤ g .d
   pub dHigh : g .d ≤ 64
 
+-- N as code counts it
+pub counted : (g : Geo) {n : ℕ} → n ≡ gN g → n ≡ 128 * g .t
+unfolding gN
+counted g e = e
+
 pub limits : (g : Geo) → geoOk g ≡ true → Limits g
 unfolding geoOk
 limits g h =

@@ -19,7 +19,7 @@ fn view_word(card: &[u8], g: Geo, v: View, cc: CrashCount) -> u32
     requires { ⌜ LaidOut g (now card) ⌝ }
     ensures { λ r. ⌜ r ≡ getD (tableIn g v (sec (now (card .entry)))) (cc .0) 0 ⌝ }
 {
-    if 128 * g.t <= cc.0 {
+    if counts::crash_counts(g) <= cc.0 {
         return 0;
     }
     if cc.0 == v.c.0 {
@@ -58,7 +58,8 @@ pub fn stamp_ok(g: Geo, s: Stamp) -> bool
     requires { ⌜ InLimits g ⌝ }
     ensures { λ r. ⌜ r ≡ stampOk g s ⌝ }
 {
-    (s.cc.0 < 128 * g.t) & (s.txc.0 <= 2147483647)
+    let top = counts::top();
+    (s.cc.0 < counts::crash_counts(g)) & (s.txc.0 <= top.0)
 }
 
 // Whether a stamp, if it is dead in a view, has a crash count below a bound.

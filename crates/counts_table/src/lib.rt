@@ -1,7 +1,7 @@
 // The crash count table: its words are in range, and those past C are 0.
 ghost use mathlib.Core.Path.{_≡_};
 ghost use mathlib.Core.Bool.{_||_};
-ghost use Prim.Native.Nat.{_+_, _*_, _≤_, _<_};
+ghost use Prim.Native.Nat.{_+_, _≤_, _<_};
 ghost use lib.Dec.{leb, ltb};
 ghost use lib.ListN.{drop, getD};
 ghost use Rattle.words.specs.Lists.{every, isZero};
@@ -17,7 +17,7 @@ use counts::Geo;
 
 // Word i of the table.
 fn word_in(card: &[u8], g: Geo, i: u32) -> u32
-    requires { ⌜ LaidOut g (now card) × (i < 128 * g .t) ⌝ }
+    requires { ⌜ LaidOut g (now card) × (i < gN g) ⌝ }
     ensures { λ r. ⌜ r ≡ getD (tableOf g (sec (now (card .entry)))) i 0 ⌝ }
 {
     words::word_at(card, 512 + 4 * (i as usize))
@@ -26,9 +26,9 @@ fn word_in(card: &[u8], g: Geo, i: u32) -> u32
 // How many words have to be looked at: those up to c where the ones past it are known to be 0, else all.
 fn judged(g: Geo, c: CrashCount, past: bool) -> u32
     requires { ⌜ g .t ≤ 512 ⌝ }
-    ensures { λ r. ⌜ (r ≤ 128 * g .t) × Judged (128 * g .t) (c .0) past r ⌝ }
+    ensures { λ r. ⌜ (r ≤ gN g) × Judged (gN g) (c .0) past r ⌝ }
 {
-    let n = 128 * g.t;
+    let n = counts::crash_counts(g);
     if !past {
         return n;
     }
@@ -44,10 +44,11 @@ pub fn table_max(card: &[u8], g: Geo, c: CrashCount, past: bool) -> bool
     ensures { λ r. ⌜ r ≡ every wordMax (tableOf g (sec (now (card .entry)))) ⌝ }
 {
     let n = judged(g, c, past);
+    let top = counts::top();
     let mut ok = true;
     let mut i: u32 = 0;
     while i < n {
-        ok = ok & (word_in(card, g, i) <= 2147483647);
+        ok = ok & (word_in(card, g, i) <= top.0);
         i += 1;
     }
     ok
@@ -58,7 +59,7 @@ pub fn zero_past(card: &[u8], g: Geo, c: CrashCount) -> bool
     requires { ⌜ LaidOut g (now card) ⌝ }
     ensures { λ r. ⌜ r ≡ every isZero (drop (c .0 + 1) (tableOf g (sec (now (card .entry))))) ⌝ }
 {
-    let n = 128 * g.t;
+    let n = counts::crash_counts(g);
     if n <= c.0 {
         return true;
     }
@@ -76,7 +77,8 @@ fn word_below(card: &[u8], g: Geo, c: CrashCount) -> bool
     requires { ⌜ LaidOut g (now card) ⌝ }
     ensures { λ r. ⌜ r ≡ (leb (gN g) (c .0) || ltb (getD (tableOf g (sec (now (card .entry)))) (c .0) 0) maxTx) ⌝ }
 {
-    (128 * g.t <= c.0) | (counts::table_word(card, g, c) < 2147483647)
+    let top = counts::top();
+    (counts::crash_counts(g) <= c.0) | (counts::table_word(card, g, c) < top.0)
 }
 
 // Whether the table is sound under the crash count c.

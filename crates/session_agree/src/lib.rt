@@ -16,13 +16,14 @@ pub fn sizes_ok(s: Opened, work: &[u8]) -> bool
     ensures { λ r. ⌜ r ≡ sizesOk s (now (work .entry)) ⌝ }
 {
     let g = s.geo;
-    let n = 128 * (g.t as u64);
+    let inside = counts::geo_ok(g);
+    if !inside {
+        return false;
+    }
+    let n = counts::crash_counts(g);
+    let top = counts::top();
     let bytes = 512 * (g.s as usize);
-    counts::geo_ok(g)
-        & ((s.c.0 as u64) < n)
-        & (1 <= s.t.0)
-        & (s.t.0 <= 2147483647)
-        & (work.len() == bytes)
+    (s.c.0 < n) & (1 <= s.t.0) & (s.t.0 <= top.0) & (work.len() == bytes)
 }
 
 // Whether sector 0 has count c + 1, the session's geometry, and zeros behind them.
@@ -42,7 +43,8 @@ pub fn word_ok(worn: bool, t: TxCount, x: u32) -> bool
     ensures { λ r. ⌜ r ≡ wordOk worn (t .0) x ⌝ }
 {
     if worn {
-        return (t.0 == 2147483647) & (x == 2147483647);
+        let top = counts::top();
+        return (t.0 == top.0) & (x == top.0);
     }
     x as u64 + 1 == t.0 as u64
 }

@@ -40,7 +40,8 @@ fn has_count(card: &[u8]) -> bool
     ensures { λ r. ⌜ r ≡ ltb (countOf (sec (now (card .entry)))) (gN (geoOf (sec (now (card .entry))))) ⌝ }
 {
     let g = counts::geo_of(card);
-    words::word_at(card, 0) < 128 * g.t
+    let n = counts::crash_counts(g);
+    words::word_at(card, 0) < n
 }
 
 // "mount 1, 2, 3"

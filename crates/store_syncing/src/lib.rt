@@ -59,6 +59,14 @@ pub fn sync_steps(s: Opened, card: &mut [u8], work: &[u8], k: u32) -> u32
     written
 }
 
+// Whether t is at its top.
+fn at_top(s: Opened) -> bool
+    ensures { λ r. ⌜ r ≡ atTop s ⌝ }
+{
+    let top = counts::top();
+    s.t.0 == top.0
+}
+
 // "Then t grows by 1. At t = 2,147,483,647 it lands too, t stays, and the session is worn"
 fn after_sync(s: Opened) -> Opened
     requires { ⌜ s .t .0 ≤ maxTx ⌝ }
@@ -67,7 +75,8 @@ fn after_sync(s: Opened) -> Opened
     let geo = s.geo;
     let c = s.c;
     let t = s.t;
-    if t.0 == 2147483647 {
+    let top = at_top(s);
+    if top {
         return Opened {
             geo,
             c,
@@ -129,7 +138,8 @@ fn unmount_step(s: Opened, card: &mut [u8], work: &[u8], k: u32) -> u32
     if k != synced {
         return 0;
     }
-    if s.t.0 == 2147483647 {
+    let top = at_top(s);
+    if top {
         return 0;
     }
     let block = down_block(s, work);
@@ -163,7 +173,8 @@ fn unmount_work(s: Opened, work: &mut [u8])
     let c = s.c;
     let t = s.t;
     store_mounting::set_word(work, c, t);
-    if t.0 == 2147483647 {
+    let top = at_top(s);
+    if top {
         return;
     }
     store_mounting::set_count(work, c.0)

@@ -1,16 +1,18 @@
 -- `counts_stamps::stamp_ok` meets its contract: straight. Assumes nothing.
 use borrow.Author.Needs.{needs}
-use Rattle.counts.specs.Geometry.{gN}
 use Rattle.counts.specs.Stamps.{stampOk}
 use Rattle.counts_stamps.proofs.stamp_ok.Statement.{statement}
 use Rattle.counts_stamps.proofs.stamp_ok.Tie as tie
 
-mul-result : tie.Need-mul-result
-mul-result c = search needs
+top-requires : tie.Need-top-requires
+top-requires c κs = search needs
+
+crash-counts-requires : tie.Need-crash-counts-requires
+crash-counts-requires c κs = search needs
 
 returns : tie.Need-returns
-unfolding stampOk gN
-returns c = search needs
+unfolding stampOk
+returns c = cc
 
 pub stamp-ok-spec : {M : Type 1} → statement M
-stamp-ok-spec = tie.close (tie.spec mul-result returns)
+stamp-ok-spec = tie.close (tie.spec top-requires crash-counts-requires returns)

@@ -1,9 +1,10 @@
 -- By whether the session is or becomes worn, and which place it is. Assumes nothing.
-use mathlib.Core.Path.{_∙_}
+use mathlib.Core.Path.{sym, _∙_}
 use native.Mathlib.Omega.{arith}
+use borrow.Author.Tests.{eqb-true, eqb-false}
 use denote.Ref.{now}
 use Rattle.sectors.specs.Sectors.{applySteps}
-use Rattle.store.specs.Steps.{downSteps}
+use Rattle.store.specs.Steps.{atTop, downSteps}
 use Rattle.store.proofs.SyncLaws.{unmount-worn, unmount-sync, unmount-past, unmount-top, unmount-down}
 use Rattle.store.proofs.SyncCounts.{count-rest, counts-live, counts-worn}
 use borrow.Author.Needs.{needs}
@@ -31,8 +32,12 @@ returns-2 c = let a = c .before .before .before .before .before .before .before 
 returns-3 : tie.Need-returns-3
 returns-3 c = let a = c .before .before .before .before .before .before .args in let l = c .before .before .before .if1 .left in (unmount-past (a .s) (now (a .work)) (a .k) (now (a .card)) l (omega arith), (counts-live (a .s) (now (a .work)) (a .k) (now (a .card)) l (count-rest _ _ _ (omega arith) (λ q. omega (arith, q))), omega arith))
 
+at-top-requires : tie.Need-at-top-requires
+at-top-requires c κs = search needs
+
 returns-4 : tie.Need-returns-4
-returns-4 c = let a = c .before .before .before .before .before .before .before .before .args in let l = c .before .before .before .before .before .if1 .left in (unmount-top (a .s) (now (a .work)) (a .k) (now (a .card)) l (omega arith) (c .if4 .taken), (counts-live (a .s) (now (a .work)) (a .k) (now (a .card)) l (count-rest _ _ _ (omega arith) (λ q. omega (arith, q))), omega arith))
+unfolding atTop
+returns-4 c = let a = c .before .before .before .before .before .before .before .before .args in let l = c .before .before .before .before .before .if1 .left in (unmount-top (a .s) (now (a .work)) (a .k) (now (a .card)) l (omega arith) (eqb-true _ _ (sym (c .before .at-top .ensures) ∙ c .if4 .taken)), (counts-live (a .s) (now (a .work)) (a .k) (now (a .card)) l (count-rest _ _ _ (omega arith) (λ q. omega (arith, q))), omega arith))
 
 down-block-requires : tie.Need-down-block-requires
 down-block-requires c κs = search needs
@@ -47,8 +52,8 @@ same-length-2 : tie.Need-same-length-2
 same-length-2 c = search needs
 
 returns-5 : tie.Need-returns-5
-unfolding downSteps applySteps
-returns-5 c = let a = c .before .before .before .before .before .before .before .before .before .before .before .before .before .before .args in let l = c .before .before .before .before .before .before .before .before .before .before .before .if1 .left in (unmount-down (a .s) (now (a .work)) (a .k) (now (a .card)) l (omega arith) (c .before .before .before .before .before .before .if4 .left) (c .before .before .write-sector .ensures ∙ rw (c .before .before .before .before .before .down-block .ensures)), (counts-live (a .s) (now (a .work)) (a .k) (now (a .card)) l (count-rest _ _ _ (omega arith) (λ q. omega (arith, q))), omega arith))
+unfolding atTop downSteps applySteps
+returns-5 c = let a = c .before .before .before .before .before .before .before .before .before .before .before .before .before .before .args in let l = c .before .before .before .before .before .before .before .before .before .before .before .if1 .left in (unmount-down (a .s) (now (a .work)) (a .k) (now (a .card)) l (omega arith) (eqb-false _ _ (sym (c .before .before .before .before .before .before .before .at-top .ensures) ∙ c .before .before .before .before .before .before .if4 .left)) (c .before .before .write-sector .ensures ∙ rw (c .before .before .before .before .before .down-block .ensures)), (counts-live (a .s) (now (a .work)) (a .k) (now (a .card)) l (count-rest _ _ _ (omega arith) (λ q. omega (arith, q))), omega arith))
 
 pub unmount-step-spec : {M : Type 1} → statement M
 unmount-step-spec =
@@ -61,6 +66,7 @@ unmount-step-spec =
     same-length
     returns-2
     returns-3
+    at-top-requires
     returns-4
     down-block-requires
     slice-aggregate-write-sector
