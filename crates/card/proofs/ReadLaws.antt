@@ -2,7 +2,7 @@
 use mathlib.Core.Path.{_≡_, sym, ap, _∙_}
 use mathlib.Core.Bool.{Bool, true, false, not}
 use mathlib.Core.List.{List}
-use Prim.Native.Nat.{ℕ, _*_, _≤_, _<_}
+use Prim.Native.Nat.{ℕ, _≤_, _<_}
 use borrow.Author.Tests.{le-leb, lt-leb, not-true, not-false}
 use lib.Dec.{leb, ltb}
 use lib.ListN.{length, getD}
@@ -115,14 +115,14 @@ module _ (img : List ℕ) (shape : shapeOk img ≡ true) (ok : sound img ≡ tru
   unfolding filesShown filesIn
   files = rw (tab, e)
 
-  pub read-done : {C n m : ℕ} → C ≡ wordAt img 0 → n ≡ length (filesOf (tableIn g v (sec img)) (entriesOf g (sec img))) → m ≡ clearBits (pageIn g (tableIn g v (sec img)) (sec img))
-      → record { number = 0; c = C; n = 128 * g .t; files = n; free = m } ≡ read img
-  unfolding read pageShown ended gN countOf
-  read-done {C} {n} {m} p q r =
+  pub read-done : {C N n m : ℕ} → C ≡ wordAt img 0 → N ≡ gN g → n ≡ length (filesOf (tableIn g v (sec img)) (entriesOf g (sec img))) → m ≡ clearBits (pageIn g (tableIn g v (sec img)) (sec img))
+      → record { number = 0; c = record { 0 = C }; n = N; files = n; free = m } ≡ read img
+  unfolding read pageShown ended countOf
+  read-done {C} {N} {n} {m} p o q r =
       let a : C ≡ wordAt (sec img 0) 0 = p ∙ sym (head-word img (shape-length img shape)) in
       let b : n ≡ length (filesShown img) = q ∙ ap length files in
       let c : m ≡ clearBits (pageIn (geoOf (sec img)) (tableOf (geoOf (sec img)) (sec img)) (sec img)) = rw (tab, e) at r in
-      rw (plan-go img shape ok (doIt 0 0), a, b, c, e)
+      rw (plan-go img shape ok (doIt 0 0), a, o, b, c, e)
 
   pub line-done : (i : ℕ) {n o : ℕ} {a : Answer} {l : Line} → n ≡ length (filesOf (tableIn g v (sec img)) (entriesOf g (sec img))) → o ≡ bit (ltb i n) → a ≡ done o
       → l ≡ getD (filesOf (tableIn g v (sec img)) (entriesOf g (sec img))) i noLine → record { answer = a; line = l } ≡ readLine img i

@@ -42,7 +42,7 @@ getIn g tab img n out = getEnd g tab img out (getPlan g tab img n out)
 
 -- a refusal's report
 unfoldable pub noReport : ℕ → Report
-noReport k = record { number = k; c = 0; n = 0; files = 0; free = 0 }
+noReport k = record { number = k; c = record { 0 = 0 }; n = 0; files = 0; free = 0 }
 
 unfoldable pub noLined : ℕ → Lined
 noLined k = record { answer = refused k; line = noLine }

@@ -33,8 +33,8 @@ readPlan img p = guard 1 (shapeOk img) (guard 2 (sound img) p)
 -- "it gives C, N, the file count and the clear bits shown (1, 2)"
 unfoldable pub read : List ℕ → Report
 read img =
-    ended (readPlan img (doIt 0 0)) (λ k. record { number = k; c = 0; n = 0; files = 0; free = 0 })
-    (λ j a. record { number = 0; c = countOf (sec img); n = gN (geoOf (sec img)); files = length (filesShown img); free = clearBits (pageShown img) })
+    ended (readPlan img (doIt 0 0)) (λ k. record { number = k; c = record { 0 = 0 }; n = 0; files = 0; free = 0 })
+    (λ j a. record { number = 0; c = record { 0 = countOf (sec img) }; n = gN (geoOf (sec img)); files = length (filesShown img); free = clearBits (pageShown img) })
 
 -- "its own list (1, 2, 10)"
 unfoldable pub readList : List ℕ → List Line → Listed

@@ -1,6 +1,7 @@
 // A whole card: its geometry, the files it shows, when it is sound, making one and reading one.
 ghost use mathlib.Core.Path.{_≡_};
 ghost use Rattle.card.specs.Plan.{refused, done};
+use counts::CrashCount;
 use entries::Run;
 
 // One line a file: name, bytes, start, sectors.
@@ -27,7 +28,7 @@ pub struct Lined {
 // What reading a card gives: the number, C, N, the file count and the clear bits shown.
 pub struct Report {
     pub number: u32,
-    pub c: u32,
+    pub c: CrashCount,
     pub n: u32,
     pub files: u32,
     pub free: u32,

@@ -17,6 +17,7 @@ use card_files::no_lined;
 use card_files::one_if;
 use card_sound::shape_ok;
 use card_sound::sound;
+use counts::CrashCount;
 
 // A refusal: its number, and zeros.
 fn no_report(k: u32) -> Report
@@ -24,7 +25,7 @@ fn no_report(k: u32) -> Report
 {
     Report {
         number: k,
-        c: 0,
+        c: CrashCount(0),
         n: 0,
         files: 0,
         free: 0,
@@ -38,13 +39,14 @@ fn read_in(card: &[u8]) -> Report
 {
     let g = counts::geo_of(card);
     let v = counts::as_is(g);
-    let c = words::word_at(card, 0);
+    let c = CrashCount(words::word_at(card, 0));
+    let n = counts::crash_counts(g);
     let files = file_count(card, g, v);
     let free = clear_in(card, g, v);
     Report {
         number: 0,
         c,
-        n: 128 * g.t,
+        n,
         files,
         free,
     }

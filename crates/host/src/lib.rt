@@ -210,7 +210,7 @@ fn mount_number(card: &[u8], work: &[u8]) -> u32
     if shown.number != 0 {
         return shown.number;
     }
-    if shown.n <= shown.c {
+    if shown.n <= shown.c.0 {
         return 3;
     }
     0

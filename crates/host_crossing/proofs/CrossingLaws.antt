@@ -67,7 +67,7 @@ pub opened-built : (o : Opened) {state : ℕ} {t u v w x y : List ℕ} → state
 unfolding openedBytes splice over wordBytes
 opened-built o e₀ e₁ e₂ e₃ e₄ e₅ e₆ = rw (e₆, e₅, e₄, e₃, e₂, e₁, e₀)
 
-pub report-built : (r : Report) {t u v w : List ℕ} → t ≡ splice (replicate 16 0) 0 (wordBytes (r .c)) → u ≡ splice t 4 (wordBytes (r .n))
+pub report-built : (r : Report) {t u v w : List ℕ} → t ≡ splice (replicate 16 0) 0 (wordBytes (r .c .0)) → u ≡ splice t 4 (wordBytes (r .n))
     → v ≡ splice u 8 (wordBytes (r .files)) → w ≡ splice v 12 (wordBytes (r .free)) → w ≡ reportBytes r
 unfolding reportBytes splice over wordBytes
 report-built r e₁ e₂ e₃ e₄ = rw (e₄, e₃, e₂, e₁)

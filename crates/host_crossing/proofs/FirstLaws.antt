@@ -58,7 +58,7 @@ first-done card n steps w e f h = leaves _ (ap (λ (p : Plan). firstOf p card n 
 -- ---- mount's tests: a report gives 1, 2, C and N
 
 -- tests 1 and 2 as a report has them, before a third
-third : (a b c : Bool) (d : Report) {r : Report} → d .number ≡ 0 → r ≡ ended (guard 1 a (guard 2 b (doIt 0 0))) (λ k. record { number = k; c = 0; n = 0; files = 0; free = 0 }) (λ j i. d)
+third : (a b c : Bool) (d : Report) {r : Report} → d .number ≡ 0 → r ≡ ended (guard 1 a (guard 2 b (doIt 0 0))) (λ k. record { number = k; c = record { 0 = 0 }; n = 0; files = 0; free = 0 }) (λ j i. d)
     → (r .number ≢ 0 → r .number ≡ planNumber (guard 1 a (guard 2 b (guard 3 c (doIt 0 0)))))
     × (r .number ≡ 0 → (r ≡ d) × (planNumber (guard 1 a (guard 2 b (guard 3 c (doIt 0 0)))) ≡ planNumber (guard 3 c (doIt 0 0))))
 unfolding planNumber guard ended
@@ -84,21 +84,21 @@ module _ (card work : List ℕ) where
     left = ltb (countOf (sec card)) (gN (geoOf (sec card)))
 
     both : (r .number ≢ 0 → r .number ≡ planNumber (mountPlan card work))
-        × (r .number ≡ 0 → (r .c ≡ countOf (sec card)) × (r .n ≡ gN (geoOf (sec card))) × (planNumber (mountPlan card work) ≡ planNumber (guard 3 left (doIt 0 0))))
+        × (r .number ≡ 0 → (r .c .0 ≡ countOf (sec card)) × (r .n ≡ gN (geoOf (sec card))) × (planNumber (mountPlan card work) ≡ planNumber (guard 3 left (doIt 0 0))))
     unfolding mountPlan read readPlan
     both =
         let (x, y) = third (shapeOk card) (sound card) left _ refl e in
         let z = sized (shapeOk card) (eq-eqb _ _ same) in
-        (λ h. rw z (x h), λ h. let (p, q) = y h in (ap (λ (r : Report). r .c) p, ap (λ (r : Report). r .n) p, rw z q))
+        (λ h. rw z (x h), λ h. let (p, q) = y h in (ap (λ (r : Report). r .c .0) p, ap (λ (r : Report). r .n) p, rw z q))
 
     pub mount-reads : r .number ≢ 0 → r .number ≡ planNumber (mountPlan card work)
     mount-reads n = both .0 n
 
-    pub mount-none : r .number ≡ 0 → r .n ≤ r .c → 3 ≡ planNumber (mountPlan card work)
+    pub mount-none : r .number ≡ 0 → r .n ≤ r .c .0 → 3 ≡ planNumber (mountPlan card work)
     unfolding planNumber guard ended
     mount-none n h = let (p, q, t) = both .1 n in let l : left ≡ false = le-ltb (countOf (sec card)) (gN (geoOf (sec card))) (omega arith) in sym (t ∙ rw l)
 
-    pub mount-left : r .number ≡ 0 → r .c < r .n → 0 ≡ planNumber (mountPlan card work)
+    pub mount-left : r .number ≡ 0 → r .c .0 < r .n → 0 ≡ planNumber (mountPlan card work)
     unfolding planNumber guard ended
     mount-left n h = let (p, q, t) = both .1 n in let l : left ≡ true = lt-ltb (countOf (sec card)) (gN (geoOf (sec card))) (omega arith) in sym (t ∙ rw l)
 

@@ -48,7 +48,7 @@ encoded (Open o) = openedBytes o
 
 -- "it gives C, N, the file count and the clear bits shown", as four words
 unfoldable pub reportBytes : Report → List ℕ
-reportBytes r = wordBytes (r .c) ++ wordBytes (r .n) ++ wordBytes (r .files) ++ wordBytes (r .free)
+reportBytes r = wordBytes (r .c .0) ++ wordBytes (r .n) ++ wordBytes (r .files) ++ wordBytes (r .free)
 
 -- what store_read leaves in its output: the report where the number is 0, else the bytes as lent
 unfoldable pub reported : Report → List ℕ → List ℕ

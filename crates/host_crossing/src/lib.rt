@@ -96,7 +96,7 @@ pub fn report_bytes(r: Report) -> [u8; 16]
     ensures { λ b. ⌜ b ≡ reportBytes r ⌝ }
 {
     let mut b = [0u8; 16];
-    words::put_word(&mut b, 0, r.c);
+    words::put_word(&mut b, 0, r.c.0);
     words::put_word(&mut b, 4, r.n);
     words::put_word(&mut b, 8, r.files);
     words::put_word(&mut b, 12, r.free);

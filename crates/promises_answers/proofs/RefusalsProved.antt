@@ -84,10 +84,10 @@ of-unmount Closed card work h = (refl, refl, refl, refl)
 of-unmount (Open s) card work h =
     refused-so (λ (r : Ended). r .answer .number) (λ r. SameBoth r (Open s) card work) _ _ (λ j a. refl) (λ k. (refl, refl, refl, refl)) _ h
 
-of-read : (img : List ℕ) → read img .number ≢ 0 → (read img .c ≡ 0) × (read img .n ≡ 0) × (read img .files ≡ 0) × (read img .free ≡ 0)
+of-read : (img : List ℕ) → read img .number ≢ 0 → (read img .c .0 ≡ 0) × (read img .n ≡ 0) × (read img .files ≡ 0) × (read img .free ≡ 0)
 unfolding read
 of-read img h =
-    refused-so (λ (r : Report). r .number) (λ r. (r .c ≡ 0) × (r .n ≡ 0) × (r .files ≡ 0) × (r .free ≡ 0)) _ _ (λ j a. refl) (λ k. (refl, refl, refl, refl)) _ h
+    refused-so (λ (r : Report). r .number) (λ r. (r .c .0 ≡ 0) × (r .n ≡ 0) × (r .files ≡ 0) × (r .free ≡ 0)) _ _ (λ j a. refl) (λ k. (refl, refl, refl, refl)) _ h
 
 of-read-list : (img : List ℕ) (lines : List Line) → readList img lines .answer .number ≢ 0 → SameLines (readList img lines) lines
 unfolding readList

@@ -135,7 +135,7 @@ module _ (card : List ℕ) (shape : shapeOk card ≡ true) (good : sound card �
   card-told : Lines (shownBy card) (filesShown card)
   card-told = rw (shown-list, files-list) (view-told g (countOf (sec card)) tab tab card (shape-inv card shape .0) (shape-inv card shape .1) W lone)
 
-  card-counts : (read card .number ≡ 0) × (read card .c ≡ countOf (sec card)) × (read card .n ≡ gN (geoOf (sec card)))
+  card-counts : (read card .number ≡ 0) × (read card .c .0 ≡ countOf (sec card)) × (read card .n ≡ gN (geoOf (sec card)))
       × (read card .files ≡ length (shownBy card)) × (read card .free + sectorsOf (filesShown card) + gF (geoOf (sec card)) ≡ geoOf (sec card) .s)
   unfolding read ended
   card-counts = rw (read-is (doIt 0 0)) (refl, refl, refl, sym (lines-length card-told), card-space card shape good)

@@ -67,7 +67,7 @@ pub record CardShows (card : List ℕ) : Type 0 where
   pub lists : (lines : List Line) → length (shownBy card) ≤ length lines
       → readList card lines ≡ record { answer = done (length (shownBy card)); lines = filesShown card ++ drop (length (shownBy card)) lines }
   -- "it gives C, N, the file count and the clear bits shown"
-  pub counts : (read card .number ≡ 0) × (read card .c ≡ countOf (sec card)) × (read card .n ≡ gN (geoOf (sec card)))
+  pub counts : (read card .number ≡ 0) × (read card .c .0 ≡ countOf (sec card)) × (read card .n ≡ gN (geoOf (sec card)))
       × (read card .files ≡ length (shownBy card)) × (read card .free + sectorsOf (filesShown card) + gF (geoOf (sec card)) ≡ geoOf (sec card) .s)
 
 abbrev pub AllShow : Type 0

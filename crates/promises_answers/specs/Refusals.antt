@@ -39,6 +39,6 @@ pub record Refusals : Type 0 where
   pub ofLand : (s : Session) (card work : List ℕ) (i : ℕ) → land s card work i .answer .number ≢ 0 → Same (land s card work i) card
   pub ofSync : (s : Session) (card work : List ℕ) → sync s card work .answer .number ≢ 0 → SameBoth (sync s card work) s card work
   pub ofUnmount : (s : Session) (card work : List ℕ) → unmount s card work .answer .number ≢ 0 → SameBoth (unmount s card work) s card work
-  pub ofRead : (img : List ℕ) → read img .number ≢ 0 → (read img .c ≡ 0) × (read img .n ≡ 0) × (read img .files ≡ 0) × (read img .free ≡ 0)
+  pub ofRead : (img : List ℕ) → read img .number ≢ 0 → (read img .c .0 ≡ 0) × (read img .n ≡ 0) × (read img .files ≡ 0) × (read img .free ≡ 0)
   pub ofReadList : (img : List ℕ) (lines : List Line) → readList img lines .answer .number ≢ 0 → SameLines (readList img lines) lines
   pub ofReadGet : (img n out : List ℕ) → readGet img n out .answer .number ≢ 0 → SameOut (readGet img n out) out

@@ -41,7 +41,7 @@ pub record ReadsAs (card : List ℕ) (m : List Item) : Type 0 where
   pub names : Names m
   -- "it gives C, N, the file count and the clear bits shown"
   pub number : read card .number ≡ 0
-  pub count : read card .c ≡ countOf (sec card)
+  pub count : read card .c .0 ≡ countOf (sec card)
   pub most : read card .n ≡ gN (geoOf (sec card))
   pub files : read card .files ≡ length m
   pub free : read card .free + sectorsIn m + gF (geoOf (sec card)) ≡ geoOf (sec card) .s

@@ -83,7 +83,7 @@ unfoldable pub isAnswer : ℕ → ℕ → Answer → Bool
 isAnswer k n a = eqb k (a .number) && eqb n (a .count)
 
 unfoldable pub isReport : ℕ → ℕ → ℕ → ℕ → ℕ → Report → Bool
-isReport k c N f n r = eqb k (r .number) && eqb c (r .c) && eqb N (r .n) && eqb f (r .files) && eqb n (r .free)
+isReport k c N f n r = eqb k (r .number) && eqb c (r .c .0) && eqb N (r .n) && eqb f (r .files) && eqb n (r .free)
 
 unfoldable pub isRoom : ℕ → ℕ → Room → Bool
 isRoom f n r = eqb 0 (r .number) && eqb f (r .free) && eqb n (r .waiting)

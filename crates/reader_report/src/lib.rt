@@ -58,7 +58,7 @@ pub fn report(card: &[u8]) {
         return;
     }
     io::write_all(STDOUT_FILENO, b"counts ");
-    number(r.c, b' ');
+    number(r.c.0, b' ');
     io::write_all(STDOUT_FILENO, b"of ");
     number(r.n, b'\n');
     io::write_all(STDOUT_FILENO, b"files ");

@@ -16,11 +16,11 @@ use session::Opened;
 // ---- one word of an image
 
 // Puts the crash count into sector 0 of an image.
-pub fn set_count(img: &mut [u8], c: u32)
+pub fn set_count(img: &mut [u8], c: CrashCount)
     requires { ⌜ 4 ≤ length (now img) ⌝ }
-    ensures { λ _. ⌜ now (img .exit) ≡ setCount c (now (img .entry)) ⌝ }
+    ensures { λ _. ⌜ now (img .exit) ≡ setCount (c .0) (now (img .entry)) ⌝ }
 {
-    words::put_word(img, 0, c)
+    words::put_word(img, 0, c.0)
 }
 
 // Sets table word c of an image to t.

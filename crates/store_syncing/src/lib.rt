@@ -177,7 +177,7 @@ fn unmount_work(s: Opened, work: &mut [u8])
     if top {
         return;
     }
-    store_mounting::set_count(work, c.0)
+    store_mounting::set_count(work, c)
 }
 
 // All steps of unmount, and the working image after them; how many sectors its sync wrote.

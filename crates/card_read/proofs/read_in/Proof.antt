@@ -14,17 +14,17 @@ as-is-requires c κs = shape-limits _ _ (c .geo-of .ensures) (c .before .before 
 word-at-requires : tie.Need-word-at-requires
 word-at-requires c κs = let l = shape-length _ (c .before .before .before .pre .0) in omega arith
 
+crash-counts-requires : tie.Need-crash-counts-requires
+crash-counts-requires c κs = shape-limits _ _ (c .before .before .geo-of .ensures) (c .before .before .before .before .pre .0) .t
+
 file-count-requires : tie.Need-file-count-requires
-file-count-requires c κs = shape-laid _ _ (c .before .before .geo-of .ensures) (c .before .before .before .before .pre .0)
+file-count-requires c κs = shape-laid _ _ (c .before .before .before .geo-of .ensures) (c .before .before .before .before .before .pre .0)
 
 clear-in-requires : tie.Need-clear-in-requires
-clear-in-requires c κs = (shape-laid _ _ (c .before .before .before .geo-of .ensures) (c .before .before .before .before .before .pre .0), sound-pair _ _ (c .before .before .before .geo-of .ensures) (c .before .before .as-is .ensures) (c .before .before .before .before .before .pre .0) (c .before .before .before .before .before .pre .1))
-
-mul-t7 : tie.Need-mul-t7
-mul-t7 c = let l = shape-limits _ _ (c .before .before .before .before .before .geo-of .ensures) (c .before .before .before .before .before .before .before .pre .0) in omega (arith, l .t)
+clear-in-requires c κs = (shape-laid _ _ (c .before .before .before .before .geo-of .ensures) (c .before .before .before .before .before .before .pre .0), sound-pair _ _ (c .before .before .before .before .geo-of .ensures) (c .before .before .before .as-is .ensures) (c .before .before .before .before .before .before .pre .0) (c .before .before .before .before .before .before .pre .1))
 
 returns : tie.Need-returns
-returns c = read-done _ (c .before .before .before .before .before .before .before .pre .0) (c .before .before .before .before .before .before .before .pre .1) _ _ (c .before .before .before .before .before .geo-of .ensures) (c .before .before .before .before .as-is .ensures) (c .before .before .before .word-at .ensures) (c .before .before .file-count .ensures) (c .before .clear-in .ensures)
+returns c = read-done _ (c .before .before .before .before .before .before .before .pre .0) (c .before .before .before .before .before .before .before .pre .1) _ _ (c .before .before .before .before .before .geo-of .ensures) (c .before .before .before .before .as-is .ensures) (c .before .before .before .word-at .ensures) (c .before .before .crash-counts .ensures) (c .before .file-count .ensures) (c .clear-in .ensures)
 
 pub read-in-spec : {M : Type 1} → statement M
 read-in-spec =
@@ -33,7 +33,7 @@ read-in-spec =
     geo-of-requires
     as-is-requires
     word-at-requires
+    crash-counts-requires
     file-count-requires
     clear-in-requires
-    mul-t7
     returns)
