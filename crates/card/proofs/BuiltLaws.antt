@@ -1,19 +1,18 @@
--- The sectors of a fresh card as code builds them: the block, bytes of bits, zeros. Assumes nothing.
-use mathlib.Core.Path.{_≡_, refl, sym, ap, _∙_}
+-- The sectors of a fresh card as code builds them: the block, bytes of bits. Assumes nothing.
+use mathlib.Core.Path.{_≡_, refl, _∙_}
 use mathlib.Core.Logic.{_⊎_, inl, inr}
 use mathlib.Core.Bool.{true, false, _||_}
 use mathlib.Core.List.{List, _++_}
 use Prim.Native.Nat.{ℕ, zero, suc, _+_, _*_, _/_, _%_, _≤_, _<_}
 use native.Mathlib.Decide.{ℕ-discrete, decLt}
-use native.Mathlib.Nat.{zero-add}
 use native.Mathlib.Omega.{arith}
 use borrow.Author.Tests.{lt-ltb, le-ltb, le-leb, lt-leb}
 use lib.Dec.{leb, ltb}
-use lib.ListN.{length, take, getD, set, replicate, length-replicate, getD-replicate}
-use lib.Seq.{getD-set-same, getD-set-other, set-out, take-all}
+use lib.ListN.{length, getD, set, replicate, getD-replicate}
+use lib.Seq.{getD-set-same, getD-set-other, set-out}
 use Rattle.words.specs.Lists.{splice}
 use Rattle.words.specs.Bytes.{wordBytes}
-use Rattle.words.proofs.SpliceLaws.{splice-parts, splice-turn, splice-whole, splice-nil}
+use Rattle.words.proofs.SpliceLaws.{splice-parts}
 use Rattle.words.proofs.WordLaws.{four-words}
 use Rattle.counts.specs.declared.Geo.{Geo}
 use Rattle.counts.specs.Geometry.{gF}
@@ -65,9 +64,6 @@ zeros-at zero j = refl
 zeros-at (suc m) zero = refl
 zeros-at (suc m) (suc j) = zeros-at m j
 
-length-zeros : (m : ℕ) → length (zeros m) ≡ m
-length-zeros m = length-replicate m 0
-
 pub clear-bit : (m n : ℕ) → bitAt (zeros m) n ≡ 0
 unfolding bitAt
 clear-bit m n = rw (zeros-at m (n / 8)) (digit-zero (n % 8))
@@ -92,20 +88,3 @@ side g n = go (decLt n (gF g)) (decLt n (g .s))
     go (yes a) d = inl (a, rw (lt-ltb n (gF g) a))
     go (no a) (yes b) = inr (inr (omega arith, b, rw (le-ltb n (gF g) (omega arith), lt-leb (g .s) n b)))
     go (no a) (no b) = inr (inl (omega arith, omega arith, rw (le-ltb n (gF g) (omega arith), le-leb (g .s) n (omega arith))))
-
--- ---- an image of zeros, byte by byte
-
-pub clear-start : (s₀ : List ℕ) → s₀ ≡ splice s₀ 0 (take 0 (zeros (length s₀)))
-clear-start s₀ = sym (splice-nil s₀ 0)
-
-pub clear-turn : (s s₀ : List ℕ) (i : ℕ) → i < length s₀ → s ≡ splice s₀ 0 (take i (zeros (length s₀))) → set s i 0 ≡ splice s₀ 0 (take (i + 1) (zeros (length s₀)))
-clear-turn s s₀ i h e =
-    let l : i < length (zeros (length s₀)) = omega (arith, length-zeros (length s₀)) in
-    let t = splice-turn s₀ 0 (zeros (length s₀)) i l in
-    rw e (rw (zero-add i, zeros-at (length s₀) i) at t)
-
-pub clear-end : (s s₀ : List ℕ) (i : ℕ) → length s₀ ≤ i → s ≡ splice s₀ 0 (take i (zeros (length s₀))) → s ≡ zeros (length s₀)
-clear-end s s₀ i h e =
-    let l : length (zeros (length s₀)) ≡ length s₀ = length-zeros (length s₀) in
-    let t : take i (zeros (length s₀)) ≡ zeros (length s₀) = take-all i (zeros (length s₀)) (omega arith) in
-    e ∙ ap (λ (x : List ℕ). splice s₀ 0 x) t ∙ splice-whole s₀ (zeros (length s₀)) l

@@ -1,7 +1,7 @@
 // A fresh card: its sectors, built in buffers of zeros, and make.
 ghost use mathlib.Core.Path.{_≡_};
 ghost use Prim.Native.Nat.{_+_, _*_, _≤_, _<_};
-ghost use lib.ListN.{length, replicate};
+ghost use lib.ListN.{length};
 ghost use Rattle.sectors.specs.Sectors.{setSec};
 ghost use Rattle.counts.specs.Geometry.{gP};
 ghost use Rattle.counts.specs.Inner.{InLimits, LaidOut};
@@ -60,17 +60,6 @@ fn fresh_page(g: Geo, p: u32) -> [u8; 512]
     apages::set_run(&mut page, 0, f, 1);
     apages::set_run(&mut page, s, 4096 - s, 1);
     page
-}
-
-// Makes every byte 0.
-fn clear(img: &mut [u8])
-    ensures { λ _. ⌜ now (img .exit) ≡ replicate (length (now (img .entry))) 0 ⌝ }
-{
-    let mut i = 0;
-    while i < img.len() {
-        img[i] = 0;
-        i += 1;
-    }
 }
 
 // Group p of a fresh index: the words 0, 0, T + 2 + 2p, T + 3 + 2p.
@@ -143,7 +132,7 @@ pub fn make_in(g: Geo, card: &mut [u8])
     requires { ⌜ LaidOut g (now card) × (length (now card) ≡ 512 * g .s) ⌝ }
     ensures { λ _. ⌜ now (card .exit) ≡ freshCard g ⌝ }
 {
-    clear(card);
+    words::clear(card);
     put_block(g, card);
     put_index(g, card);
     fresh_pages(g, card)

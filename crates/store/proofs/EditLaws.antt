@@ -1,12 +1,11 @@
 -- The writes of a change one after the other: content, entry, bitmap. The first two leave table and index as they are. Assumes nothing.
-use mathlib.Core.Path.{_≡_, sym, ap, _∙_}
+use mathlib.Core.Path.{_≡_, ap, _∙_}
 use mathlib.Core.List.{List, []}
 use Prim.Native.Nat.{ℕ, _+_, _-_, _*_, _≤_, _<_}
 use native.Mathlib.Omega.{arith}
-use lib.ListN.{length, take, getD, set, replicate, getD-replicate, length-replicate}
-use lib.Seq.{take-all}
+use lib.ListN.{length, getD, replicate}
 use Rattle.words.specs.Lists.{splice, pad}
-use Rattle.words.proofs.SpliceLaws.{splice-length, splice-nil, splice-turn, splice-then}
+use Rattle.words.proofs.SpliceLaws.{splice-length, splice-then}
 use Rattle.sectors.specs.Sectors.{sec}
 use Rattle.sectors.proofs.FlatLaws.{run-other}
 use Rattle.counts.specs.declared.Stamp.{Stamp}
@@ -31,26 +30,6 @@ use Rattle.session.specs.Views.{ownStamp, presentView, presentTable}
 use Rattle.store.specs.Edit.{putContent, editWork}
 use Rattle.apages.specs.Inner.{PairIn}
 use Rattle.store.specs.Inner.{CanEdit}
-
--- ---- zeros, in a loop
-
-zeros-length : (n : ℕ) → length {A = ℕ} (replicate n 0) ≡ n
-zeros-length n = length-replicate n 0
-
-zero-in : (n i : ℕ) → i < n → getD {A = ℕ} (replicate n 0) i 0 ≡ 0
-zero-in n i h = getD-replicate n i 0 0 h
-
-pub zeros-start : (s : List ℕ) (at n : ℕ) → s ≡ splice s at (take 0 (replicate n 0))
-zeros-start s at n = sym (splice-nil s at)
-
-pub zeros-turn : (s t : List ℕ) (at n i : ℕ) → i < n → t ≡ splice s at (take i (replicate n 0)) → set t (at + i) 0 ≡ splice s at (take (i + 1) (replicate n 0))
-zeros-turn s t at n i h e =
-    let z : List ℕ = replicate n 0 in
-    let l : i < length z = omega (arith, zeros-length n) in
-    rw e (rw (zero-in n i h) at (splice-turn s at (replicate n 0) i l))
-
-pub zeros-end : (s t : List ℕ) (at n i : ℕ) → n ≤ i → t ≡ splice s at (take i (replicate n 0)) → t ≡ splice s at (replicate n 0)
-zeros-end s t at n i h e = e ∙ ap (λ (l : List ℕ). splice s at l) (take-all i (replicate n 0) (omega (arith, zeros-length n)))
 
 -- ---- the content
 

@@ -31,11 +31,8 @@ fn put_zeros(s: &mut [u8], at: usize, n: usize)
     requires { ⌜ at + n ≤ length (now s) ⌝ }
     ensures { λ _. ⌜ now (s .exit) ≡ splice (now (s .entry)) at (replicate n 0) ⌝ }
 {
-    let mut i = 0;
-    while i < n {
-        s[at + i] = 0;
-        i += 1;
-    }
+    let end = at + n;
+    words::clear(&mut s[at..end])
 }
 
 // "Content goes to the lowest run ..; The last sector is filled with zeros."

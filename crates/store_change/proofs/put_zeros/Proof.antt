@@ -1,55 +1,51 @@
--- The loop stores one zero more each turn. Assumes nothing.
-use mathlib.Core.Path.{_≡_, ap, _∙_}
-use Prim.Native.Nat.{_-_, _≤_}
+-- The part that was lent came back as zeros. Assumes nothing.
+use mathlib.Core.Path.{_≡_, sym, _∙_}
+use mathlib.Core.List.{List, _++_}
+use Prim.Native.Nat.{ℕ, _+_, _-_, _≤_}
 use native.Mathlib.Omega.{arith}
-use lib.ListN.{length, take, replicate}
+use borrow.Author.Needs.{needs}
+use lib.ListN.{length, take, drop, replicate, length-drop, length-replicate}
+use lib.Seq.{length-take-le}
 use Rattle.words.specs.Lists.{splice}
-use Rattle.words.proofs.SpliceLaws.{splice-length}
-use Rattle.store.proofs.EditLaws.{zeros-start, zeros-turn, zeros-end}
+use Rattle.words.proofs.SpliceLaws.{part-back}
 use Rattle.store_change.proofs.put_zeros.Statement.{statement}
 use Rattle.store_change.proofs.put_zeros.Tie as tie
 
-abbrev Inv-loop : tie.InvT-loop
-Inv-loop s₀ at n i₀ s i = (i ≤ n) × (s ≡ splice s₀ at (take i (replicate n 0)))
+zeros-back : (s : List ℕ) {ys : List ℕ} (at n : ℕ) → at + n ≤ length s → ys ≡ replicate (length (take (at + n - at) (drop at s))) 0 → take at s ++ (ys ++ drop (at + n - at) (drop at s)) ≡ splice s at (replicate n 0)
+zeros-back s at n h e =
+    let m : at + n - at ≡ n = omega arith in
+    let l : length (take (at + n - at) (drop at s)) ≡ n = rw m (length-take-le n (drop at s) (simp length-drop (omega arith))) in
+    rw (e, l) (part-back s (replicate n 0) at (at + n) (omega arith) h (length-replicate n 0 ∙ sym m))
 
-abbrev μ-loop : tie.MeasureT-loop
-μ-loop s₀ at n i₀ s i = n - i
+add-end : tie.Need-add-end
+add-end c = search needs
 
-loop-holds : tie.Need-loop-holds Inv-loop μ-loop
-loop-holds c = (omega arith, zeros-start _ _ (c .args .n))
+sub-clear : tie.Need-sub-clear
+sub-clear c = search needs
 
-add-s : tie.Need-add-s Inv-loop μ-loop
-add-s c = omega arith
+part-clear-start : tie.Need-part-clear-start
+part-clear-start c = search needs
 
-slice-write-s : tie.Need-slice-write-s Inv-loop μ-loop
-slice-write-s c = let l = simp splice-length at (ap length (c .before .loop .inv .1)) in omega arith
+part-clear-end : tie.Need-part-clear-end
+part-clear-end c = search needs
 
-add-i : tie.Need-add-i Inv-loop μ-loop
-add-i c = omega arith
+clear-requires : tie.Need-clear-requires
+clear-requires c κs = search needs
 
-loop-less : tie.Need-loop-less Inv-loop μ-loop
-loop-less c = omega arith
+same-length : tie.Need-same-length
+same-length c = search needs
 
-loop-again : tie.Need-loop-again Inv-loop μ-loop
-loop-again c = (omega arith, zeros-turn _ _ _ _ _ (c .loop-test .taken) (c .before .loop .inv .1))
-
-same-length : tie.Need-same-length Inv-loop μ-loop
-same-length c = ap length (c .before .loop .inv .1) ∙ splice-length _ _ _
-
-returns : tie.Need-returns Inv-loop μ-loop
-returns c = zeros-end _ _ _ _ _ (c .loop-test .left) (c .before .loop .inv .1)
+returns : tie.Need-returns
+returns c = let z = c .before .before .before .before .before in zeros-back _ (z .args .at) (z .args .n) (z .pre) (c .before .before .clear .ensures)
 
 pub put-zeros-spec : {M : Type 1} → statement M
 put-zeros-spec =
     tie.close
     (tie.spec
-    Inv-loop
-    μ-loop
-    loop-holds
-    add-s
-    slice-write-s
-    add-i
-    loop-less
-    loop-again
+    add-end
+    sub-clear
+    part-clear-start
+    part-clear-end
+    clear-requires
     same-length
     returns)
