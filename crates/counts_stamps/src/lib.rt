@@ -1,6 +1,8 @@
 // Stamps: when one is alive, its rules, and how it stands to a session's own.
 ghost use mathlib.Core.Path.{_≡_};
+ghost use mathlib.Core.Bool.{_||_};
 ghost use Prim.Native.Nat.{_≤_};
+ghost use lib.Dec.{ltb};
 ghost use lib.ListN.{length, getD};
 ghost use Rattle.sectors.specs.Sectors.{sec};
 ghost use Rattle.counts.specs.Stamps.{tableIn, stampOf, alive, stampOk, deadBelow, sameStamp, standing};
@@ -62,12 +64,20 @@ pub fn stamp_ok(g: Geo, s: Stamp) -> bool
     (s.cc.0 < counts::crash_counts(g)) & (s.txc.0 <= top.0)
 }
 
+// Whether a stamp is alive or has a crash count below a bound.
+pub fn below(live: bool, bound: u32, s: Stamp) -> bool
+    ensures { λ r. ⌜ r ≡ (live || ltb (s .cc .0) bound) ⌝ }
+{
+    live | (s.cc.0 < bound)
+}
+
 // Whether a stamp, if it is dead in a view, has a crash count below a bound.
 pub fn dead_below(card: &[u8], g: Geo, v: View, bound: u32, s: Stamp) -> bool
     requires { ⌜ LaidOut g (now card) ⌝ }
     ensures { λ r. ⌜ r ≡ deadBelow bound (tableIn g v (sec (now (card .entry)))) s ⌝ }
 {
-    alive(card, g, v, s) | (s.cc.0 < bound)
+    let live = alive(card, g, v, s);
+    below(live, bound, s)
 }
 
 // Whether a stamp is the session's own.

@@ -1,5 +1,6 @@
 // The rules of all entries: each passes, and no name is shown by two.
 ghost use mathlib.Core.Path.{_≡_};
+ghost use mathlib.Core.Bool.{cond};
 ghost use mathlib.Core.List.{[]};
 ghost use Prim.Native.Nat.{_+_, _*_, _<_};
 ghost use lib.Dec.{eqb};
@@ -8,7 +9,7 @@ ghost use Rattle.words.specs.Lists.{every, pairwise};
 ghost use Rattle.sectors.specs.Sectors.{sec};
 ghost use Rattle.counts.specs.Stamps.{tableIn};
 ghost use Rattle.counts.specs.Inner.{LaidOut};
-ghost use Rattle.entries.specs.Entries.{nameOf, entryOk};
+ghost use Rattle.entries.specs.Entries.{versionOf, newOf, oldOf, isAbsent, nameOf, entryOk};
 ghost use Rattle.directory.specs.Directory.{entriesOf, gone, apart};
 ghost use Rattle.apages.specs.Bits.{bitAt, putBit};
 ghost use Rattle.directory_rules.specs.Inner.{Marking, Known};
@@ -33,14 +34,26 @@ pub fn entries_ok(card: &[u8], g: Geo, v: View, bound: u32) -> bool
     true
 }
 
+// Whether the version that an entry shows is absent: the new one if it is alive, the old one if not.
+fn shows_none(live: bool, p: &[u8]) -> bool
+    requires { ⌜ length (now p) ≡ 128 ⌝ }
+    ensures { λ r. ⌜ r ≡ isAbsent (versionOf (cond live (newOf (now (p .entry))) (oldOf (now (p .entry))))) ⌝ }
+{
+    let at = entries::new_or_old(live);
+    words::word_at(p, at) == 0
+}
+
 // Whether an entry shows no file in either of two views.
 pub fn is_gone(card: &[u8], g: Geo, v: View, w: View, p: &[u8]) -> bool
     requires { ⌜ LaidOut g (now card) × (length (now p) ≡ 128) ⌝ }
     ensures { λ r. ⌜ r ≡ gone (tableIn g v (sec (now (card .entry)))) (tableIn g w (sec (now (card .entry)))) (now (p .entry)) ⌝ }
 {
-    let one = entries::is_absent(entries::shown(card, g, v, p));
-    let other = entries::is_absent(entries::shown(card, g, w, p));
-    one & other
+    let s = counts_stamps::stamp_of(p);
+    let one = shows_none(counts_stamps::alive(card, g, v, s), p);
+    if !one {
+        return false;
+    }
+    shows_none(counts_stamps::alive(card, g, w, s), p)
 }
 
 // Whether two entries do not both show a file, in either view, under one name.

@@ -10,12 +10,16 @@ use counts::Geo;
 use counts::View;
 use words::Found;
 
-// Whether an entry shows, in either view, a file of that name.
+// Whether an entry shows, in either view, a file of that name. What it shows is looked up only if it has the name.
 fn is_named(card: &[u8], g: Geo, v: View, w: View, name: &[u8], p: &[u8]) -> bool
     requires { ⌜ LaidOut g (now card) × (length (now p) ≡ 128) ⌝ }
     ensures { λ r. ⌜ r ≡ named (tableIn g v (sec (now (card .entry)))) (tableIn g w (sec (now (card .entry)))) (now (name .entry)) (now (p .entry)) ⌝ }
 {
-    !directory_rules::is_gone(card, g, v, w, p) & entries_names::has_name(name, p)
+    let like = entries_names::has_name(name, p);
+    if !like {
+        return false;
+    }
+    !directory_rules::is_gone(card, g, v, w, p)
 }
 
 // The first entry that shows, in either view, a file of that name.

@@ -1,6 +1,6 @@
--- What an entry shows, its name, its tests and its change, as code reads them. Assumes nothing.
+-- What an entry shows, its name, its name's test and its change, as code reads them. Assumes nothing.
 use mathlib.Core.Path.{_≡_, refl, ap, _∙_}
-use mathlib.Core.Bool.{Bool, true, false, cond, _&&_, _||_}
+use mathlib.Core.Bool.{Bool, true, false, cond, _&&_}
 use mathlib.Core.List.{List}
 use Prim.Native.Nat.{ℕ, _+_, _-_, _≤_, _<_, min}
 use native.Mathlib.Decide.{decLt}
@@ -10,13 +10,12 @@ use lib.ListN.{length, take, drop, length-take, length-drop}
 use lib.Seq.{take-take, take-all}
 use Rattle.words.specs.Lists.{every, isZero, eqList}
 use Rattle.words.specs.Bytes.{wordAt}
-use Rattle.counts.specs.declared.Geo.{Geo}
 use Rattle.counts.specs.declared.Stamp.{Stamp}
 use Rattle.counts.specs.declared.Standing.{Standing}
-use Rattle.counts.specs.Stamps.{stampOf, alive, showing, stampOk, deadBelow, standing}
+use Rattle.counts.specs.Stamps.{stampOf, alive, showing, standing}
 use Rattle.entries.specs.declared.Version.{Version}
 use Rattle.entries.specs.declared.Entry.{Entry}
-use Rattle.entries.specs.Entries.{newOf, oldOf, entryRest, shownBytes, shown, isAbsent, nameBytes, nameOf, goodByte, nameOk, versionOk, entryOk, changed}
+use Rattle.entries.specs.Entries.{newOf, oldOf, shownBytes, nameBytes, nameOf, goodByte, nameOk, changed}
 use Rattle.entries.specs.Inner.{changedAs}
 
 pub changed-as : (tab : List ℕ) (own : Stamp) (e : Entry) (name : List ℕ) (v : Version) {st : Standing} {r : Entry}
@@ -43,7 +42,8 @@ shown-here tab p {s} {live} {at} e₀ e₁ e₂ =
 
 -- ---- names
 
-name-part : (p : List ℕ) {a : ℕ} → length p ≡ 128 → a ≡ 12 + min (wordAt p 8) 32 → take (a - 12) (drop 12 p) ≡ nameOf p
+-- the part of an entry that its name is
+pub name-part : (p : List ℕ) {a : ℕ} → length p ≡ 128 → a ≡ 12 + min (wordAt p 8) 32 → take (a - 12) (drop 12 p) ≡ nameOf p
 unfolding nameOf nameBytes
 name-part p {a} h e = go (decLt (wordAt p 8) 32)
   where
@@ -78,12 +78,3 @@ unfolding nameOk
 name-mid n b l h e f =
     let z : n - 0 ≡ n = omega arith in
     rw (le-leb 1 n l, le-leb n 32 h, e, f, z, rest-part b n)
-
--- ---- an entry's test, from the answers to its parts
-
-pub entry-here : (g : Geo) (bound : ℕ) (tab p : List ℕ) {s : Stamp} {n : ℕ} {x : Version} {stamp below rest version absent name : Bool} → s ≡ stampOf p
-    → below ≡ deadBelow bound tab s → rest ≡ every isZero (take (length p - 76) (drop 76 p)) → version ≡ versionOk g (shownBytes tab p) → x ≡ shown tab p
-    → absent ≡ isAbsent x → n ≡ wordAt p 8 → name ≡ nameOk n (take 32 (drop 12 p)) → stamp ≡ stampOk g s
-    → (stamp && (below && rest && version && (absent || name))) ≡ entryOk g bound tab p
-unfolding entryOk nameBytes entryRest
-entry-here g bound tab p e₀ e₁ e₂ e₃ e₄ e₅ e₆ e₇ e₈ = rw (e₈, e₁, e₂, e₃, e₅, e₇, e₀, e₄, e₆, rest-part p 76)

@@ -1,7 +1,12 @@
 -- What the contracts of inner functions cite besides the words of the papers: what such a function asks of its caller, and what it answers. Assumes nothing.
 use mathlib.Core.List.{List, [], _∷_}
-use Prim.Native.Nat.{ℕ, _*_, _%_}
+use Prim.Native.Nat.{ℕ, _-_, _*_, _%_}
 use lib.Bits.{bitXor}
+use lib.ListN.{length, getD}
+
+-- the last byte of a name; 0 if there is none
+unfoldable pub lastOf : List ℕ → ℕ
+lastOf n = getD n (length n - 1) 0
 
 -- one byte more
 unfoldable pub hashStep : ℕ → ℕ → ℕ

@@ -5,23 +5,21 @@ ghost use lib.ListN.{length};
 ghost use Rattle.words.specs.Lists.{every, eqList};
 ghost use Rattle.words.specs.Bytes.{wordAt};
 ghost use Rattle.entries.specs.Entries.{goodByte, goodName, nameOf, nameOk};
-ghost use Rattle.entries_names.specs.Inner.{hashStep, hashOf};
+ghost use Rattle.entries_names.specs.Inner.{lastOf, hashStep, hashOf};
 
 // ---- names
 
-// Whether every byte may stand in a name.
+// Whether every byte may stand in a name. It does not stop early, as `words::zeros`.
 pub fn good_bytes(s: &[u8]) -> bool
     ensures { λ r. ⌜ r ≡ every goodByte (now (s .entry)) ⌝ }
 {
+    let mut ok = true;
     let mut i = 0;
     while i < s.len() {
-        let ok = (33 <= s[i]) & (s[i] <= 126);
-        if !ok {
-            return false;
-        }
+        ok = ok & ((33 <= s[i]) & (s[i] <= 126));
         i += 1;
     }
-    true
+    ok
 }
 
 // Whether a name has 1 to 32 bytes, each 33 to 126.
@@ -64,6 +62,29 @@ fn name_end(p: &[u8]) -> usize
     44
 }
 
+// The last byte of a name; 0 if there is none.
+fn last_byte(n: &[u8]) -> u8
+    ensures { λ r. ⌜ r ≡ lastOf (now (n .entry)) ⌝ }
+{
+    if n.len() == 0 {
+        return 0;
+    }
+    n[n.len() - 1]
+}
+
+// Whether two names are the same. Where the lengths or the last bytes differ, no more is looked at.
+fn same_bytes(n: &[u8], m: &[u8]) -> bool
+    ensures { λ r. ⌜ r ≡ eqList (now (n .entry)) (now (m .entry)) ⌝ }
+{
+    if n.len() != m.len() {
+        return false;
+    }
+    if last_byte(n) != last_byte(m) {
+        return false;
+    }
+    words::same(n, m)
+}
+
 // Whether two entries have the same name.
 pub fn same_name(p: &[u8], q: &[u8]) -> bool
     requires { ⌜ (length (now p) ≡ 128) × (length (now q) ≡ 128) ⌝ }
@@ -71,7 +92,7 @@ pub fn same_name(p: &[u8], q: &[u8]) -> bool
 {
     let a = name_end(p);
     let b = name_end(q);
-    words::same(&p[12..a], &q[12..b])
+    same_bytes(&p[12..a], &q[12..b])
 }
 
 // Whether an entry has that name.
@@ -80,7 +101,7 @@ pub fn has_name(n: &[u8], p: &[u8]) -> bool
     ensures { λ r. ⌜ r ≡ eqList (now (n .entry)) (nameOf (now (p .entry))) ⌝ }
 {
     let b = name_end(p);
-    words::same(n, &p[12..b])
+    same_bytes(n, &p[12..b])
 }
 
 // ---- the hash of a name

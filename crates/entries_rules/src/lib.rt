@@ -1,11 +1,13 @@
 // When names, versions and entries keep their rules.
 ghost use mathlib.Core.Path.{_≡_};
+ghost use mathlib.Core.Bool.{_&&_, _||_};
 ghost use Prim.Native.Nat.{_+_};
 ghost use lib.ListN.{length};
+ghost use Rattle.words.specs.Bytes.{wordAt};
 ghost use Rattle.sectors.specs.Sectors.{sec};
 ghost use Rattle.counts.specs.Stamps.{tableIn};
 ghost use Rattle.counts.specs.Inner.{InLimits, LaidOut};
-ghost use Rattle.entries.specs.Entries.{shownBytes, shown, sectorsFor, runOk, versionOk, entryOk};
+ghost use Rattle.entries.specs.Entries.{versionOf, isAbsent, nameBytes, nameOk, sectorsFor, runOk, versionOk, entryOk};
 use counts::Geo;
 use counts::View;
 use entries::Run;
@@ -55,27 +57,30 @@ pub fn version_ok(g: Geo, v: &[u8]) -> bool
     (state == 1) & run_ok(g, run)
 }
 
-// Whether the version that an entry shows in a view is well formed.
-fn shown_ok(card: &[u8], g: Geo, v: View, p: &[u8]) -> bool
-    requires { ⌜ LaidOut g (now card) × (length (now p) ≡ 128) ⌝ }
-    ensures { λ r. ⌜ r ≡ versionOk g (shownBytes (tableIn g v (sec (now (card .entry)))) (now (p .entry))) ⌝ }
+// Whether the version that an entry shows, its 16 bytes, is well formed, and the name too if it is present.
+fn shown_ok(g: Geo, v: &[u8], p: &[u8]) -> bool
+    requires { ⌜ InLimits g × ((length (now v) ≡ 16) × (length (now p) ≡ 128)) ⌝ }
+    ensures { λ r. ⌜ r ≡ (versionOk g (now (v .entry)) && (isAbsent (versionOf (now (v .entry))) || nameOk (wordAt (now (p .entry)) 8) (nameBytes (now (p .entry))))) ⌝ }
 {
-    let s = counts_stamps::stamp_of(p);
-    let at = entries::new_or_old(counts_stamps::alive(card, g, v, s));
-    let end = at + 16;
-    version_ok(g, &p[at..end])
+    let version = version_ok(g, v);
+    let state = words::word_at(v, 0);
+    if state == 0 {
+        return version;
+    }
+    version & entries_names::name_ok(words::word_at(p, 8), &p[12..44])
 }
 
-// Whether an entry passes in a view.
+// Whether an entry passes in a view. Whether it is alive is looked up once.
 pub fn entry_ok(card: &[u8], g: Geo, v: View, bound: u32, p: &[u8]) -> bool
     requires { ⌜ LaidOut g (now card) × (length (now p) ≡ 128) ⌝ }
     ensures { λ r. ⌜ r ≡ entryOk g bound (tableIn g v (sec (now (card .entry)))) (now (p .entry)) ⌝ }
 {
     let s = counts_stamps::stamp_of(p);
-    let below = counts_stamps::dead_below(card, g, v, bound, s);
+    let live = counts_stamps::alive(card, g, v, s);
+    let at = entries::new_or_old(live);
+    let end = at + 16;
+    let stamp = counts_stamps::stamp_ok(g, s);
+    let below = counts_stamps::below(live, bound, s);
     let rest = words::zeros(&p[76..]);
-    let version = shown_ok(card, g, v, p);
-    let absent = entries::is_absent(entries::shown(card, g, v, p));
-    let name = entries_names::name_ok(words::word_at(p, 8), &p[12..44]);
-    counts_stamps::stamp_ok(g, s) & (below & rest & version & (absent | name))
+    stamp & (below & rest & shown_ok(g, &p[at..end], p))
 }

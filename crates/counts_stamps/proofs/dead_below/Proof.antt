@@ -7,9 +7,12 @@ use Rattle.counts_stamps.proofs.dead_below.Tie as tie
 alive-requires : tie.Need-alive-requires
 alive-requires c κs = search needs
 
+below-requires : tie.Need-below-requires
+below-requires c κs = search needs
+
 returns : tie.Need-returns
 unfolding deadBelow
 returns c = cc
 
 pub dead-below-spec : {M : Type 1} → statement M
-dead-below-spec = tie.close (tie.spec alive-requires returns)
+dead-below-spec = tie.close (tie.spec alive-requires below-requires returns)

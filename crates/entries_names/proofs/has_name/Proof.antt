@@ -7,22 +7,22 @@ use Rattle.entries_names.proofs.has_name.Tie as tie
 name-end-requires : tie.Need-name-end-requires
 name-end-requires c κs = search needs
 
-sub-same : tie.Need-sub-same
-sub-same c = search needs
+sub-same-bytes : tie.Need-sub-same-bytes
+sub-same-bytes c = search needs
 
-part-same-start : tie.Need-part-same-start
-part-same-start c = search needs
+part-same-bytes-start : tie.Need-part-same-bytes-start
+part-same-bytes-start c = search needs
 
-part-same-end : tie.Need-part-same-end
-part-same-end c = search needs
+part-same-bytes-end : tie.Need-part-same-bytes-end
+part-same-bytes-end c = search needs
 
-same-requires : tie.Need-same-requires
-same-requires c κs = search needs
+same-bytes-requires : tie.Need-same-bytes-requires
+same-bytes-requires c κs = search needs
 
 returns : tie.Need-returns
-returns c = name-here _ _ (c .before .before .before .before .before .pre) (c .before .before .name-end .ensures) (c .same .ensures)
+returns c = name-here _ _ (c .before .before .before .before .before .pre) (c .before .before .name-end .ensures) (c .same-bytes .ensures)
 
 pub has-name-spec : {M : Type 1} → statement M
 has-name-spec =
     tie.close
-    (tie.spec name-end-requires sub-same part-same-start part-same-end same-requires returns)
+    (tie.spec name-end-requires sub-same-bytes part-same-bytes-start part-same-bytes-end same-bytes-requires returns)

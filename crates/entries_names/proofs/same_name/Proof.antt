@@ -10,29 +10,29 @@ name-end-requires c κs = search needs
 name-end-requires-2 : tie.Need-name-end-requires-2
 name-end-requires-2 c κs = search needs
 
-sub-same : tie.Need-sub-same
-sub-same c = search needs
+sub-same-bytes : tie.Need-sub-same-bytes
+sub-same-bytes c = search needs
 
-part-same-start : tie.Need-part-same-start
-part-same-start c = search needs
+part-same-bytes-start : tie.Need-part-same-bytes-start
+part-same-bytes-start c = search needs
 
-part-same-end : tie.Need-part-same-end
-part-same-end c = search needs
+part-same-bytes-end : tie.Need-part-same-bytes-end
+part-same-bytes-end c = search needs
 
-sub-same-2 : tie.Need-sub-same-2
-sub-same-2 c = search needs
+sub-same-bytes-2 : tie.Need-sub-same-bytes-2
+sub-same-bytes-2 c = search needs
 
-part-same-start-2 : tie.Need-part-same-start-2
-part-same-start-2 c = search needs
+part-same-bytes-start-2 : tie.Need-part-same-bytes-start-2
+part-same-bytes-start-2 c = search needs
 
-part-same-end-2 : tie.Need-part-same-end-2
-part-same-end-2 c = search needs
+part-same-bytes-end-2 : tie.Need-part-same-bytes-end-2
+part-same-bytes-end-2 c = search needs
 
-same-requires : tie.Need-same-requires
-same-requires c κs = search needs
+same-bytes-requires : tie.Need-same-bytes-requires
+same-bytes-requires c κs = search needs
 
 returns : tie.Need-returns
-returns c = same-here _ _ (c .before .before .before .before .before .before .before .pre .0) (c .before .before .before .before .before .before .before .pre .1) (c .before .before .before .before .name-end .ensures) (c .before .before .before .name-end2 .ensures) (c .same .ensures)
+returns c = same-here _ _ (c .before .before .before .before .before .before .before .pre .0) (c .before .before .before .before .before .before .before .pre .1) (c .before .before .before .before .name-end .ensures) (c .before .before .before .name-end2 .ensures) (c .same-bytes .ensures)
 
 pub same-name-spec : {M : Type 1} → statement M
 same-name-spec =
@@ -40,11 +40,11 @@ same-name-spec =
     (tie.spec
     name-end-requires
     name-end-requires-2
-    sub-same
-    part-same-start
-    part-same-end
-    sub-same-2
-    part-same-start-2
-    part-same-end-2
-    same-requires
+    sub-same-bytes
+    part-same-bytes-start
+    part-same-bytes-end
+    sub-same-bytes-2
+    part-same-bytes-start-2
+    part-same-bytes-end-2
+    same-bytes-requires
     returns)
