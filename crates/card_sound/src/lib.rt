@@ -39,7 +39,7 @@ pub fn sound_in(card: &[u8], g: Geo) -> bool
     let table = counts_table::table_ok(card, g, CrashCount(c));
     let mut scratch = [0u8; 128];
     let view = view_ok(card, g, v, c, &mut scratch);
-    let names = directory_rules::names_ok(card, g, v, v);
+    let names = directory_rules::names_ok(card, g, v, v, &mut scratch);
     (c <= 128 * g.t) & rest & table & view & names
 }
 

@@ -31,7 +31,7 @@ stays m n k h e = go (ℕ-discrete n k)
     go (no q) = bit-other m n 1 (omega arith) h k q ∙ e
 
 -- two marks, as code sets them
-pub marking : (m : List ℕ) {m₁ m₂ : List ℕ} (n : List ℕ) {a b : ℕ} {x y : Bool} → length m ≡ 256 → a ≡ hashOf n % 2048 → b ≡ hashOf n / 2048 % 2048
+pub marking : (m : List ℕ) {m₁ m₂ : List ℕ} (n : List ℕ) {a b : ℕ} {x y : Bool} → length m ≡ 128 → a ≡ hashOf n % 1024 → b ≡ hashOf n / 1024 % 1024
     → x ≡ eqb (bitAt m a) 0 → m₁ ≡ putBit m a 1 → y ≡ eqb (bitAt m₁ b) 0 → m₂ ≡ putBit m₁ b 1 → Marking m m₂ n (x || y)
 marking m {m₁} {m₂} n {a} {b} {x} {y} l ea eb ex e₁ ey e₂ = record {
   new = λ t w. none x y t (λ q. clear m a (sym ex ∙ q) (rw (← ea) at (w .low))) (λ q. clear m₁ b (sym ey ∙ q) (first b (rw (← eb) at (w .high))));
@@ -42,7 +42,7 @@ marking m {m₁} {m₂} n {a} {b} {x} {y} l ea eb ex e₁ ey e₂ = record {
     la : a < 8 * length m
     la = omega arith
 
-    l₁ : length m₁ ≡ 256
+    l₁ : length m₁ ≡ 128
     l₁ = rw e₁ (putBit-length m a 1 ∙ l)
 
     lb : b < 8 * length m₁

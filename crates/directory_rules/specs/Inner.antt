@@ -9,10 +9,10 @@ use Rattle.entries_names.specs.Inner.{hashOf}
 use Rattle.directory.specs.Directory.{gone}
 use Rattle.apages.specs.Bits.{bitAt}
 
--- a name has two of 2,048 marks
+-- a name has two of 1,024 marks
 pub record Marked (m n : List ℕ) : Type 0 where
-  pub low : bitAt m (hashOf n % 2048) ≡ 1
-  pub high : bitAt m (hashOf n / 2048 % 2048) ≡ 1
+  pub low : bitAt m (hashOf n % 1024) ≡ 1
+  pub high : bitAt m (hashOf n / 1024 % 1024) ≡ 1
 
 -- a name is marked: it was not before if the answer is true, and what was marked still is
 pub record Marking (m m′ n : List ℕ) (r : Bool) : Type 0 where

@@ -90,7 +90,7 @@ fn apart_from(card: &[u8], g: Geo, v: View, w: View, i: usize) -> bool
 
 // Sets mark n. Whether it was clear.
 fn mark(marks: &mut [u8], n: usize) -> bool
-    requires { ⌜ (length (now marks) ≡ 256) × (n < 2048) ⌝ }
+    requires { ⌜ (length (now marks) ≡ 128) × (n < 1024) ⌝ }
     ensures { λ r. ⌜ (r ≡ eqb (bitAt (now (marks .entry)) n) 0) × (now (marks .exit) ≡ putBit (now (marks .entry)) n 1) ⌝ }
 {
     let was = apages::bit(marks, n);
@@ -100,18 +100,18 @@ fn mark(marks: &mut [u8], n: usize) -> bool
 
 // Sets the marks of an entry's name. True only if no entry of that name had them set.
 fn mark_name(marks: &mut [u8], p: &[u8]) -> bool
-    requires { ⌜ (length (now marks) ≡ 256) × (length (now p) ≡ 128) ⌝ }
+    requires { ⌜ (length (now marks) ≡ 128) × (length (now p) ≡ 128) ⌝ }
     ensures { λ r. ⌜ Marking (now (marks .entry)) (now (marks .exit)) (nameOf (now (p .entry))) r ⌝ }
 {
     let h = entries_names::hash_at(p) as usize;
-    let low = mark(marks, h % 2048);
-    let high = mark(marks, h / 2048 % 2048);
+    let low = mark(marks, h % 1024);
+    let high = mark(marks, h / 1024 % 1024);
     low | high
 }
 
 // The same as `apart_from`, with the marks of the later names: entry i is compared with them only if its own name has marks that are set.
 fn alone(card: &[u8], g: Geo, v: View, w: View, marks: &mut [u8], i: usize) -> bool
-    requires { ⌜ LaidOut g (now card) × ((i < 4 * g .d) × ((length (now marks) ≡ 256) × Known (tableIn g v (sec (now card))) (tableIn g w (sec (now card))) (entriesOf g (sec (now card))) (i + 1) (now marks))) ⌝ }
+    requires { ⌜ LaidOut g (now card) × ((i < 4 * g .d) × ((length (now marks) ≡ 128) × Known (tableIn g v (sec (now card))) (tableIn g w (sec (now card))) (entriesOf g (sec (now card))) (i + 1) (now marks))) ⌝ }
     ensures { λ r. ⌜ (r ≡ every (apart (tableIn g v (sec (now (card .entry)))) (tableIn g w (sec (now (card .entry)))) (getD (entriesOf g (sec (now (card .entry)))) i [])) (drop (i + 1) (entriesOf g (sec (now (card .entry)))))) × Known (tableIn g v (sec (now (card .entry)))) (tableIn g w (sec (now (card .entry)))) (entriesOf g (sec (now (card .entry)))) i (now (marks .exit)) ⌝ }
 {
     let at = directory::place_of(g, i);
@@ -127,16 +127,16 @@ fn alone(card: &[u8], g: Geo, v: View, w: View, marks: &mut [u8], i: usize) -> b
     apart_from(card, g, v, w, i)
 }
 
-// Whether no name is shown, in either view, by two entries. From the last entry down, with marks of the names seen.
-pub fn names_ok(card: &[u8], g: Geo, v: View, w: View) -> bool
+// Whether no name is shown, in either view, by two entries. From the last entry down, with marks of the names seen in the bytes that are lent.
+pub fn names_ok(card: &[u8], g: Geo, v: View, w: View, marks: &mut [u8; 128]) -> bool
     requires { ⌜ LaidOut g (now card) ⌝ }
     ensures { λ r. ⌜ r ≡ pairwise (apart (tableIn g v (sec (now (card .entry)))) (tableIn g w (sec (now (card .entry))))) (entriesOf g (sec (now (card .entry)))) ⌝ }
 {
-    let mut marks = [0u8; 256];
+    words::clear(marks);
     let mut i = 4 * (g.d as usize);
     while 0 < i {
         i -= 1;
-        if !alone(card, g, v, w, &mut marks, i) {
+        if !alone(card, g, v, w, marks, i) {
             return false;
         }
     }

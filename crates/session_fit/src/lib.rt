@@ -32,7 +32,7 @@ fn views_fit(s: Opened, work: &[u8]) -> bool
     let mut scratch = [0u8; 128];
     let present = card_sound::view_ok(work, g, p, s.c.0, &mut scratch);
     let cut = card_sound::view_ok(work, g, k, 128 * g.t, &mut scratch);
-    let names = directory_rules::names_ok(work, g, p, k);
+    let names = directory_rules::names_ok(work, g, p, k, &mut scratch);
     present & cut & names
 }
 

@@ -28,7 +28,7 @@ returns c = let z = c .before .before .before .before .before .before .before .b
     let h = c .before .before .before .before .before .before .before .before .hash-at .ensures in
     let x = c .before .before .before .before .before .before .mark .ensures in
     let y = c .before .before .mark2 .ensures in
-    marking (now (z .args .marks)) (nameOf (now (z .args .p))) (z .pre .0) (ap (λ (x : ℕ). x % 2048) h) (ap (λ (x : ℕ). x / 2048 % 2048) h) (x .0) (x .1) (y .0) (y .1)
+    marking (now (z .args .marks)) (nameOf (now (z .args .p))) (z .pre .0) (ap (λ (x : ℕ). x % 1024) h) (ap (λ (x : ℕ). x / 1024 % 1024) h) (x .0) (x .1) (y .0) (y .1)
 
 pub mark-name-spec : {M : Type 1} → statement M
 mark-name-spec =

@@ -19,10 +19,13 @@ use Rattle.directory_rules.proofs.names_ok.Statement.{statement}
 use Rattle.directory_rules.proofs.names_ok.Tie as tie
 
 abbrev Inv-loop : tie.InvT-loop
-Inv-loop card g v w marks₀ i₀ marks i = (i ≤ 4 * g .d) × (length marks ≡ 256) × (pairwise (apart (tableIn g v (sec card)) (tableIn g w (sec card))) (drop i (entriesOf g (sec card))) ≡ true) × Known (tableIn g v (sec card)) (tableIn g w (sec card)) (entriesOf g (sec card)) i marks
+Inv-loop card g v w marks₀ i₀ marks i = (i ≤ 4 * g .d) × (length marks ≡ 128) × (pairwise (apart (tableIn g v (sec card)) (tableIn g w (sec card))) (drop i (entriesOf g (sec card))) ≡ true) × Known (tableIn g v (sec card)) (tableIn g w (sec card)) (entriesOf g (sec card)) i marks
 
 abbrev μ-loop : tie.MeasureT-loop
 μ-loop card g v w marks₀ i₀ marks i = i
+
+clear-requires : tie.Need-clear-requires Inv-loop μ-loop
+clear-requires c κs = search needs
 
 cast-i : tie.Need-cast-i Inv-loop μ-loop
 cast-i c = search needs
@@ -31,39 +34,37 @@ mul-i : tie.Need-mul-i Inv-loop μ-loop
 mul-i c = search needs
 
 loop-holds : tie.Need-loop-holds Inv-loop μ-loop
-loop-holds c = let a = c .before .before .args in
+loop-holds c = let a = c .before .before .before .before .args in
     let end = entries-le (a .g) (now (a .card)) (4 * a .g .d) (omega arith) in
-    (search needs, refl, sym (pair-end _ _ [] _ end refl), known-end _ _ (entriesOf (a .g) (sec (now (a .card)))) _ _ end)
+    (search needs, search needs, sym (pair-end _ _ [] _ end refl), known-end _ _ (entriesOf (a .g) (sec (now (a .card)))) _ _ end)
 
 sub-i : tie.Need-sub-i Inv-loop μ-loop
 sub-i c = search needs
 
-slice-aggregate-alone : tie.Need-slice-aggregate-alone Inv-loop μ-loop
-slice-aggregate-alone c = search needs
-
 alone-requires : tie.Need-alone-requires Inv-loop μ-loop
 alone-requires c κs = let l = c .before .before .loop in
-    let a = c .before .before .before .before .before .args in
+    let z = c .before .before .before .before .before .before .before in
+    let a = z .args in
     let next : l .i ≡ l .i - 1 + 1 = omega (arith, c .before .loop-test .taken) in
-    (c .before .before .before .before .before .pre, (omega (arith, l .inv .0, c .before .loop-test .taken), (l .inv .1, known-at _ _ (entriesOf (a .g) (sec (now (a .card)))) _ _ _ next (l .inv .3))))
+    (z .pre, (omega (arith, l .inv .0, c .before .loop-test .taken), (l .inv .1, known-at _ _ (entriesOf (a .g) (sec (now (a .card)))) _ _ _ next (l .inv .3))))
 
 returns : tie.Need-returns Inv-loop μ-loop
-returns c = let l = c .before .before .before .before .before .loop in
-    let a = c .before .before .before .before .before .before .before .before .args in
-    let t = c .before .before .before .before .loop-test .taken in
+returns c = let l = c .before .before .before .before .loop in
+    let a = c .before .before .before .before .before .before .before .before .before .args in
+    let t = c .before .before .before .loop-test .taken in
     let next : l .i ≡ l .i - 1 + 1 = omega (arith, t) in
-    down-stop _ (entriesOf (a .g) (sec (now (a .card)))) [] (l .i - 1) _ next (entries-lt (a .g) (now (a .card)) (l .i - 1) (omega (arith, l .inv .0, t))) (c .before .before .alone .ensures .0) (c .if1 .taken)
+    down-stop _ (entriesOf (a .g) (sec (now (a .card)))) [] (l .i - 1) _ next (entries-lt (a .g) (now (a .card)) (l .i - 1) (omega (arith, l .inv .0, t))) (c .before .alone .ensures .0) (c .if1 .taken)
 
 loop-less : tie.Need-loop-less Inv-loop μ-loop
 loop-less c = search needs
 
 loop-again : tie.Need-loop-again Inv-loop μ-loop
-loop-again c = let l = c .before .before .before .before .before .loop in
-    let a = c .before .before .before .before .before .before .before .before .args in
-    let t = c .before .before .before .before .loop-test .taken in
-    let r = c .before .before .alone in
+loop-again c = let l = c .before .before .before .before .loop in
+    let a = c .before .before .before .before .before .before .before .before .before .args in
+    let t = c .before .before .before .loop-test .taken in
+    let r = c .before .alone in
     let next : l .i ≡ l .i - 1 + 1 = omega (arith, t) in
-    (omega (arith, l .inv .0), omega (arith, r .kept .1 .1 .1 .1 .0, l .inv .1), down-go _ (entriesOf (a .g) (sec (now (a .card)))) [] (l .i - 1) _ next (entries-lt (a .g) (now (a .card)) (l .i - 1) (omega (arith, l .inv .0, t))) (r .ensures .0) (c .if1 .left) (l .inv .2), r .ensures .1)
+    (omega (arith, l .inv .0), search needs, down-go _ (entriesOf (a .g) (sec (now (a .card)))) [] (l .i - 1) _ next (entries-lt (a .g) (now (a .card)) (l .i - 1) (omega (arith, l .inv .0, t))) (r .ensures .0) (c .if1 .left) (l .inv .2), r .ensures .1)
 
 returns-2 : tie.Need-returns-2 Inv-loop μ-loop
 returns-2 c = let z : c .before .loop .i ≡ 0 = omega arith in sym (rw z at (c .before .loop .inv .2))
@@ -74,11 +75,11 @@ names-ok-spec =
     (tie.spec
     Inv-loop
     μ-loop
+    clear-requires
     cast-i
     mul-i
     loop-holds
     sub-i
-    slice-aggregate-alone
     alone-requires
     returns
     loop-less
