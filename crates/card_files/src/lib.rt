@@ -56,7 +56,7 @@ pub fn run_at(card: &[u8], g: Geo, v: View, j: usize) -> Run
 {
     let at = directory::place_of(g, j);
     let end = at + 128;
-    run_of(entries::shown(card, g, v, &card[at..end]))
+    run_of(entries_shown::shown(card, g, v, &card[at..end]))
 }
 
 // Fills the first bytes of the output with the content of a run.
@@ -76,7 +76,7 @@ fn shows(card: &[u8], g: Geo, v: View, j: usize) -> u32
 {
     let at = directory::place_of(g, j);
     let end = at + 128;
-    let absent = entries::is_absent(entries::shown(card, g, v, &card[at..end]));
+    let absent = entries::is_absent(entries_shown::shown(card, g, v, &card[at..end]));
     one_if(!absent)
 }
 

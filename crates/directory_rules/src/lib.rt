@@ -39,7 +39,7 @@ fn shows_none(live: bool, p: &[u8]) -> bool
     requires { ⌜ length (now p) ≡ 128 ⌝ }
     ensures { λ r. ⌜ r ≡ isAbsent (versionOf (cond live (newOf (now (p .entry))) (oldOf (now (p .entry))))) ⌝ }
 {
-    let at = entries::new_or_old(live);
+    let at = entries_shown::new_or_old(live);
     words::word_at(p, at) == 0
 }
 

@@ -1,18 +1,13 @@
 // Directory entries of 128 bytes: a stamp, a name, and two versions of a file.
 ghost use mathlib.Core.Path.{_≡_};
-ghost use mathlib.Core.Bool.{cond};
 ghost use Prim.Native.Nat.{_+_, _≤_};
 ghost use lib.ListN.{length, take, drop};
 ghost use Rattle.words.specs.Lists.{splice, pad};
-ghost use Rattle.sectors.specs.Sectors.{sec};
-ghost use Rattle.counts.specs.Stamps.{tableIn, becomesOld};
-ghost use Rattle.counts.specs.Inner.{LaidOut};
-ghost use Rattle.entries.specs.Entries.{versionOf, versionBytes, entryOf, entryBytes, shown, isAbsent};
+ghost use Rattle.counts.specs.Stamps.{becomesOld};
+ghost use Rattle.entries.specs.Entries.{versionOf, versionBytes, entryBytes, isAbsent};
 ghost use Rattle.entries.specs.Inner.{changedAs};
-use counts::Geo;
 use counts::Stamp;
 use counts::Standing;
-use counts::View;
 use sectors::Sector;
 
 // Where a file's content lies, and how long it is.
@@ -39,7 +34,7 @@ pub struct Entry {
 // ---- the codec
 
 // The version that 16 bytes are.
-fn version_of(v: &[u8]) -> Version
+pub fn version_of(v: &[u8]) -> Version
     requires { ⌜ length (now v) ≡ 16 ⌝ }
     ensures { λ r. ⌜ r ≡ versionOf (now (v .entry)) ⌝ }
 {
@@ -99,34 +94,6 @@ fn padded(name: &[u8]) -> [u8; 32]
     bytes
 }
 
-// The entry that 128 bytes are.
-fn entry_of(p: &[u8]) -> Entry
-    requires { ⌜ length (now p) ≡ 128 ⌝ }
-    ensures { λ r. ⌜ r ≡ entryOf (now (p .entry)) ⌝ }
-{
-    let stamp = counts_stamps::stamp_of(p);
-    let size = words::word_at(p, 8);
-    let name = name_at(p, 12);
-    let new = version_of(&p[44..60]);
-    let old = version_of(&p[60..76]);
-    Entry {
-        stamp,
-        size,
-        name,
-        new,
-        old,
-    }
-}
-
-// The entry whose 128 bytes stand from `at` on.
-pub fn entry_at(s: &[u8], at: usize) -> Entry
-    requires { ⌜ at + 128 ≤ length (now s) ⌝ }
-    ensures { λ r. ⌜ r ≡ entryOf (take 128 (drop at (now (s .entry)))) ⌝ }
-{
-    let end = at + 128;
-    entry_of(&s[at..end])
-}
-
 // Writes an entry over 128 bytes.
 pub fn fill_entry(p: &mut [u8], e: Entry)
     requires { ⌜ length (now p) ≡ 128 ⌝ }
@@ -175,26 +142,6 @@ pub fn changed(st: Standing, own: Stamp, e: Entry, name: &[u8], v: Version) -> E
         new: v,
         old: kept,
     }
-}
-
-// ---- what an entry shows
-
-// Where the version that an entry shows stands in it: the new one or the old one.
-pub fn new_or_old(live: bool) -> usize
-    ensures { λ r. ⌜ (r ≡ cond live 44 60) × (r ≤ 60) ⌝ }
-{
-    if live { 44 } else { 60 }
-}
-
-// The version that an entry shows in a view.
-pub fn shown(card: &[u8], g: Geo, v: View, p: &[u8]) -> Version
-    requires { ⌜ LaidOut g (now card) × (length (now p) ≡ 128) ⌝ }
-    ensures { λ r. ⌜ r ≡ shown (tableIn g v (sec (now (card .entry)))) (now (p .entry)) ⌝ }
-{
-    let s = counts_stamps::stamp_of(p);
-    let at = new_or_old(counts_stamps::alive(card, g, v, s));
-    let end = at + 16;
-    version_of(&p[at..end])
 }
 
 // Whether a version is absent.

@@ -77,7 +77,7 @@ pub fn entry_ok(card: &[u8], g: Geo, v: View, bound: u32, p: &[u8]) -> bool
 {
     let s = counts_stamps::stamp_of(p);
     let live = counts_stamps::alive(card, g, v, s);
-    let at = entries::new_or_old(live);
+    let at = entries_shown::new_or_old(live);
     let end = at + 16;
     let stamp = counts_stamps::stamp_ok(g, s);
     let below = counts_stamps::below(live, bound, s);

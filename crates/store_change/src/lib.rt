@@ -54,7 +54,7 @@ fn changed_entry(s: Opened, work: &[u8], name: &[u8], j: usize, v: Version) -> E
 {
     let g = s.geo;
     let at = directory::place_of(g, j);
-    let e = entries::entry_at(work, at);
+    let e = entries_shown::entry_at(work, at);
     let own = own_stamp(s);
     let present = present_view(s);
     let stamp = e.stamp;

@@ -1,10 +1,10 @@
--- `entries::entry_at` meets its contract: straight. Assumes nothing.
+-- `entries_shown::entry_at` meets its contract: straight. Assumes nothing.
 use mathlib.Core.Path.{_≡_, _∙_}
 use Prim.Native.Nat.{_+_, _-_}
 use native.Mathlib.Omega.{arith}
 use borrow.Author.Needs.{needs}
-use Rattle.entries.proofs.entry_at.Statement.{statement}
-use Rattle.entries.proofs.entry_at.Tie as tie
+use Rattle.entries_shown.proofs.entry_at.Statement.{statement}
+use Rattle.entries_shown.proofs.entry_at.Tie as tie
 
 add-end : tie.Need-add-end
 add-end c = search needs

@@ -1,8 +1,8 @@
--- `entries::entry_of` meets its contract: straight. Assumes nothing.
+-- `entries_shown::entry_of` meets its contract: straight. Assumes nothing.
 use borrow.Author.Needs.{needs}
 use Rattle.entries.specs.Entries.{newOf, oldOf, nameBytes, entryOf}
-use Rattle.entries.proofs.entry_of.Statement.{statement}
-use Rattle.entries.proofs.entry_of.Tie as tie
+use Rattle.entries_shown.proofs.entry_of.Statement.{statement}
+use Rattle.entries_shown.proofs.entry_of.Tie as tie
 
 stamp-of-requires : tie.Need-stamp-of-requires
 stamp-of-requires c κs = search needs

@@ -1,11 +1,11 @@
--- `entries::shown` meets its contract: the version's part of the entry. Assumes nothing.
+-- `entries_shown::shown` meets its contract: the version's part of the entry. Assumes nothing.
 use mathlib.Core.Path.{ap, _∙_}
 use borrow.Author.Needs.{needs}
 use Rattle.counts.specs.Stamps.{alive}
 use Rattle.entries.specs.Entries.{versionOf, shown}
 use Rattle.entries.proofs.EntryLaws.{shown-here}
-use Rattle.entries.proofs.shown.Statement.{statement}
-use Rattle.entries.proofs.shown.Tie as tie
+use Rattle.entries_shown.proofs.shown.Statement.{statement}
+use Rattle.entries_shown.proofs.shown.Tie as tie
 
 stamp-of-requires : tie.Need-stamp-of-requires
 stamp-of-requires c κs = search needs
