@@ -10,6 +10,7 @@ ghost use Rattle.counts.specs.Geometry.{gP};
 ghost use Rattle.counts.specs.Inner.{InLimits, LaidOut};
 ghost use Rattle.counts.specs.Stamps.{tableIn};
 use apages::Index;
+use counts::CrashCount;
 use counts::Geo;
 use counts::View;
 use sectors::Sector;
@@ -61,9 +62,9 @@ fn pair_ok(g: Geo, p: u32, a: Sector, b: Sector) -> bool
 }
 
 // Whether group p passes in a view, with dead stamps below a bound.
-fn group_ok(card: &[u8], g: Geo, v: View, bound: u32, p: u32, x: &[u8]) -> bool
+fn group_ok(card: &[u8], g: Geo, v: View, bound: CrashCount, p: u32, x: &[u8]) -> bool
     requires { ⌜ LaidOut g (now card) × ((p < gP g) × (16 ≤ length (now x))) ⌝ }
-    ensures { λ r. ⌜ r ≡ groupOk g bound (tableIn g v (sec (now (card .entry)))) p (now (x .entry)) ⌝ }
+    ensures { λ r. ⌜ r ≡ groupOk g (bound .0) (tableIn g v (sec (now (card .entry)))) p (now (x .entry)) ⌝ }
 {
     let i = index_of(x);
     let stamp = i.stamp;
@@ -88,9 +89,9 @@ pub fn shown_page(card: &[u8], g: Geo, v: View, x: &[u8]) -> Sector
 // ---- the index sector: "the index holds P groups"
 
 // Whether every group passes.
-fn groups_ok(card: &[u8], g: Geo, v: View, bound: u32, ix: &[u8]) -> bool
+fn groups_ok(card: &[u8], g: Geo, v: View, bound: CrashCount, ix: &[u8]) -> bool
     requires { ⌜ LaidOut g (now card) × (length (now ix) ≡ 512) ⌝ }
-    ensures { λ r. ⌜ r ≡ everyGroup (groupOk g bound (tableIn g v (sec (now (card .entry))))) (now (ix .entry)) 0 (gP g) ⌝ }
+    ensures { λ r. ⌜ r ≡ everyGroup (groupOk g (bound .0) (tableIn g v (sec (now (card .entry))))) (now (ix .entry)) 0 (gP g) ⌝ }
 {
     let pairs = counts::pairs(g);
     let mut p = 0;
@@ -107,9 +108,9 @@ fn groups_ok(card: &[u8], g: Geo, v: View, bound: u32, ix: &[u8]) -> bool
 }
 
 // Whether the index passes in a view, with dead stamps below a bound: each group, and "the rest 0".
-pub fn index_ok(card: &[u8], g: Geo, v: View, bound: u32, ix: &[u8]) -> bool
+pub fn index_ok(card: &[u8], g: Geo, v: View, bound: CrashCount, ix: &[u8]) -> bool
     requires { ⌜ LaidOut g (now card) × (length (now ix) ≡ 512) ⌝ }
-    ensures { λ r. ⌜ r ≡ indexOk g bound (tableIn g v (sec (now (card .entry)))) (now (ix .entry)) ⌝ }
+    ensures { λ r. ⌜ r ≡ indexOk g (bound .0) (tableIn g v (sec (now (card .entry)))) (now (ix .entry)) ⌝ }
 {
     let pairs = counts::pairs(g);
     let from = 16 * (pairs as usize);

@@ -86,13 +86,13 @@ module _ (g : Geo) (img : List ℕ) (laid : LaidOut g img) {v : View} (e : v ≡
   pub as-table : tableIn g v (sec img) ≡ tableOf g (sec img)
   as-table = rw e (as-is g img laid)
 
-  pub sound-here : {C : ℕ} {a b c d : Bool} → C ≡ wordAt img 0 → a ≡ every isZero (take 496 (drop 16 img)) → b ≡ tableOk g C (tableOf g (sec img))
+  pub sound-here : {C N : ℕ} {a b c d : Bool} → N ≡ gN g → C ≡ wordAt img 0 → a ≡ every isZero (take 496 (drop 16 img)) → b ≡ tableOk g C (tableOf g (sec img))
       → c ≡ viewOk g C (tableIn g v (sec img)) (sec img) → d ≡ pairwise (apart (tableIn g v (sec img)) (tableIn g v (sec img))) (entriesOf g (sec img))
-      → (leb C (128 * g .t) && a && b && c && d) ≡ soundIn g (sec img)
-  unfolding soundIn countOf gN
-  sound-here {C} {a} {b} {c} {d} e₀ e₁ e₂ e₃ e₄ =
+      → (leb C N && a && b && c && d) ≡ soundIn g (sec img)
+  unfolding soundIn countOf
+  sound-here {C} {N} {a} {b} {c} {d} eN e₀ e₁ e₂ e₃ e₄ =
       let z : wordAt (sec img 0) 0 ≡ C = head-word img (omega (arith, laid .room)) ∙ sym e₀ in
-      rw (z, head-rest img, e₁, e₂, e₃, e₄, as-table)
+      rw (z, eN, head-rest img, e₁, e₂, e₃, e₄, as-table)
 
 pub sound-of : (img : List ℕ) (g : Geo) {r : Bool} → g ≡ geoOf (sec img) → r ≡ soundIn g (sec img) → r ≡ sound img
 unfolding sound

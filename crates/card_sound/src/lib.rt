@@ -11,9 +11,9 @@ use counts::Geo;
 use counts::View;
 
 // Whether a view passes the index, entry and bitmap rules; a dead stamp has its count below the bound. What the scratch holds is of no use before or after.
-pub fn view_ok(card: &[u8], g: Geo, v: View, bound: u32, scratch: &mut [u8; 128]) -> bool
+pub fn view_ok(card: &[u8], g: Geo, v: View, bound: CrashCount, scratch: &mut [u8; 128]) -> bool
     requires { ⌜ LaidOut g (now card) ⌝ }
-    ensures { λ r. ⌜ r ≡ viewOk g bound (tableIn g v (sec (now (card .entry)))) (sec (now (card .entry))) ⌝ }
+    ensures { λ r. ⌜ r ≡ viewOk g (bound .0) (tableIn g v (sec (now (card .entry)))) (sec (now (card .entry))) ⌝ }
 {
     let from = 512 * (g.t as usize + 1);
     let to = from + 512;
@@ -33,14 +33,15 @@ pub fn sound_in(card: &[u8], g: Geo) -> bool
     requires { ⌜ LaidOut g (now card) ⌝ }
     ensures { λ r. ⌜ r ≡ soundIn g (sec (now (card .entry))) ⌝ }
 {
-    let c = words::word_at(card, 0);
+    let c = CrashCount(words::word_at(card, 0));
     let rest = words::zeros(&card[16..512]);
     let v = counts::as_is(g);
-    let table = counts_table::table_ok(card, g, CrashCount(c));
+    let table = counts_table::table_ok(card, g, c);
     let mut scratch = [0u8; 128];
     let view = view_ok(card, g, v, c, &mut scratch);
     let names = directory_rules::names_ok(card, g, v, v, &mut scratch);
-    (c <= 128 * g.t) & rest & table & view & names
+    let n = counts::crash_counts(g);
+    (c.0 <= n) & rest & table & view & names
 }
 
 // Whether an image stores a geometry inside the limits and has 512·S bytes for its S.

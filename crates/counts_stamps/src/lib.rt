@@ -65,16 +65,16 @@ pub fn stamp_ok(g: Geo, s: Stamp) -> bool
 }
 
 // Whether a stamp is alive or has a crash count below a bound.
-pub fn below(live: bool, bound: u32, s: Stamp) -> bool
-    ensures { λ r. ⌜ r ≡ (live || ltb (s .cc .0) bound) ⌝ }
+pub fn below(live: bool, bound: CrashCount, s: Stamp) -> bool
+    ensures { λ r. ⌜ r ≡ (live || ltb (s .cc .0) (bound .0)) ⌝ }
 {
-    live | (s.cc.0 < bound)
+    live | (s.cc.0 < bound.0)
 }
 
 // Whether a stamp, if it is dead in a view, has a crash count below a bound.
-pub fn dead_below(card: &[u8], g: Geo, v: View, bound: u32, s: Stamp) -> bool
+pub fn dead_below(card: &[u8], g: Geo, v: View, bound: CrashCount, s: Stamp) -> bool
     requires { ⌜ LaidOut g (now card) ⌝ }
-    ensures { λ r. ⌜ r ≡ deadBelow bound (tableIn g v (sec (now (card .entry)))) s ⌝ }
+    ensures { λ r. ⌜ r ≡ deadBelow (bound .0) (tableIn g v (sec (now (card .entry)))) s ⌝ }
 {
     let live = alive(card, g, v, s);
     below(live, bound, s)

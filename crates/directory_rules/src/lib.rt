@@ -13,13 +13,14 @@ ghost use Rattle.entries.specs.Entries.{versionOf, newOf, oldOf, isAbsent, name
 ghost use Rattle.directory.specs.Directory.{entriesOf, gone, apart};
 ghost use Rattle.apages.specs.Bits.{bitAt, putBit};
 ghost use Rattle.directory_rules.specs.Inner.{Marking, Known};
+use counts::CrashCount;
 use counts::Geo;
 use counts::View;
 
 // Whether every entry passes in a view.
-pub fn entries_ok(card: &[u8], g: Geo, v: View, bound: u32) -> bool
+pub fn entries_ok(card: &[u8], g: Geo, v: View, bound: CrashCount) -> bool
     requires { ⌜ LaidOut g (now card) ⌝ }
-    ensures { λ r. ⌜ r ≡ every (entryOk g bound (tableIn g v (sec (now (card .entry))))) (entriesOf g (sec (now (card .entry)))) ⌝ }
+    ensures { λ r. ⌜ r ≡ every (entryOk g (bound .0) (tableIn g v (sec (now (card .entry))))) (entriesOf g (sec (now (card .entry)))) ⌝ }
 {
     let n = 4 * (g.d as usize);
     let mut j = 0;

@@ -8,6 +8,7 @@ ghost use Rattle.sectors.specs.Sectors.{sec};
 ghost use Rattle.counts.specs.Stamps.{tableIn};
 ghost use Rattle.counts.specs.Inner.{InLimits, LaidOut};
 ghost use Rattle.entries.specs.Entries.{versionOf, isAbsent, nameBytes, nameOk, sectorsFor, runOk, versionOk, entryOk};
+use counts::CrashCount;
 use counts::Geo;
 use counts::View;
 use entries::Run;
@@ -71,9 +72,9 @@ fn shown_ok(g: Geo, v: &[u8], p: &[u8]) -> bool
 }
 
 // Whether an entry passes in a view. Whether it is alive is looked up once.
-pub fn entry_ok(card: &[u8], g: Geo, v: View, bound: u32, p: &[u8]) -> bool
+pub fn entry_ok(card: &[u8], g: Geo, v: View, bound: CrashCount, p: &[u8]) -> bool
     requires { ⌜ LaidOut g (now card) × (length (now p) ≡ 128) ⌝ }
-    ensures { λ r. ⌜ r ≡ entryOk g bound (tableIn g v (sec (now (card .entry)))) (now (p .entry)) ⌝ }
+    ensures { λ r. ⌜ r ≡ entryOk g (bound .0) (tableIn g v (sec (now (card .entry)))) (now (p .entry)) ⌝ }
 {
     let s = counts_stamps::stamp_of(p);
     let live = counts_stamps::alive(card, g, v, s);

@@ -87,15 +87,15 @@ unfolding presentView
 view-open s e = rw e
 
 -- both views as code asks for them
-pub views-here : (s : Opened) (work : List ℕ) → LaidOut (s .geo) work → {p k : View} {a b n : Bool} → p ≡ presentView s → k ≡ asIs (s .geo)
+pub views-here : (s : Opened) (work : List ℕ) → LaidOut (s .geo) work → {p k : View} {m : ℕ} {a b n : Bool} → p ≡ presentView s → k ≡ asIs (s .geo) → m ≡ gN (s .geo)
     → a ≡ viewOk (s .geo) (s .c .0) (tableIn (s .geo) p (sec work)) (sec work)
-    → b ≡ viewOk (s .geo) (128 * s .geo .t) (tableIn (s .geo) k (sec work)) (sec work)
+    → b ≡ viewOk (s .geo) m (tableIn (s .geo) k (sec work)) (sec work)
     → n ≡ pairwise (apart (tableIn (s .geo) p (sec work)) (tableIn (s .geo) k (sec work))) (entriesOf (s .geo) (sec work))
     → (a && b && n) ≡ viewsFit s (sec work)
-unfolding viewsFit presentTable cutTable gN
-views-here s work l ep ek ea eb en =
+unfolding viewsFit presentTable cutTable
+views-here s work l ep ek em ea eb en =
     let z : tableIn (s .geo) _ (sec work) ≡ tableOf (s .geo) (sec work) = ap (λ (x : View). tableIn (s .geo) x (sec work)) ek ∙ as-is (s .geo) work l in
-    rw (ea, eb, en, z, ep)
+    rw (ea, eb, en, em, z, ep)
 
 -- the index as the part that code lends
 pub stamps-here : (s : Opened) (work : List ℕ) {a b : Bool} → a ≡ every (entryAtMost s) (entriesOf (s .geo) (sec work))

@@ -4,6 +4,7 @@ ghost use Rattle.words.specs.Lists.{every};
 ghost use Rattle.sectors.specs.Sectors.{sec};
 ghost use Rattle.counts.specs.Inner.{LaidOut};
 ghost use Rattle.session.specs.Fits.{tableFits, viewsFit, stampsFit, fits};
+use counts::CrashCount;
 use session::Opened;
 
 // Whether the counts and the table of the working image are the session's.
@@ -29,9 +30,10 @@ fn views_fit(s: Opened, work: &[u8]) -> bool
     let g = s.geo;
     let p = session::present_view(s);
     let k = counts::as_is(g);
+    let n = CrashCount(counts::crash_counts(g));
     let mut scratch = [0u8; 128];
-    let present = card_sound::view_ok(work, g, p, s.c.0, &mut scratch);
-    let cut = card_sound::view_ok(work, g, k, 128 * g.t, &mut scratch);
+    let present = card_sound::view_ok(work, g, p, s.c, &mut scratch);
+    let cut = card_sound::view_ok(work, g, k, n, &mut scratch);
     let names = directory_rules::names_ok(work, g, p, k, &mut scratch);
     present & cut & names
 }

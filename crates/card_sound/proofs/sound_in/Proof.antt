@@ -31,11 +31,11 @@ view-ok-requires c κs = search needs
 names-ok-requires : tie.Need-names-ok-requires
 names-ok-requires c κs = search needs
 
-mul-result : tie.Need-mul-result
-mul-result c = search needs
+crash-counts-requires : tie.Need-crash-counts-requires
+crash-counts-requires c κs = search needs
 
 returns : tie.Need-returns
-returns c = sound-here _ _ (c .before .before .before .before .before .before .before .before .before .before .before .pre) (c .before .before .before .before .before .before .as-is .ensures) (c .before .before .before .before .before .before .before .before .before .word-at .ensures) (c .before .before .before .before .before .before .before .zeros .ensures) (c .before .before .before .before .before .table-ok .ensures) (c .before .before .before .view-ok .ensures) (c .before .names-ok .ensures)
+returns c = sound-here _ _ (c .before .before .before .before .before .before .before .before .before .before .before .before .pre) (c .before .before .before .before .before .before .before .as-is .ensures) (c .crash-counts .ensures) (c .before .before .before .before .before .before .before .before .before .before .word-at .ensures) (c .before .before .before .before .before .before .before .before .zeros .ensures) (c .before .before .before .before .before .before .table-ok .ensures) (c .before .before .before .before .view-ok .ensures) (c .before .before .names-ok .ensures)
 
 pub sound-in-spec : {M : Type 1} → statement M
 sound-in-spec =
@@ -50,5 +50,5 @@ sound-in-spec =
     table-ok-requires
     view-ok-requires
     names-ok-requires
-    mul-result
+    crash-counts-requires
     returns)

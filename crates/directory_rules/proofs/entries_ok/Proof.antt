@@ -53,7 +53,7 @@ returns : tie.Need-returns Inv-loop μ-loop
 returns c =
     let a = c .before .before .before .before .before .before .before .before .args in
     let h = c .before .before .before .before .loop-test .taken in
-    let e = entry-test (a .g) (now (a .card)) _ _ (entryOk (a .g) (a .bound) (tableIn (a .g) (a .v) (sec (now (a .card))))) (c .before .before .before .place-of .ensures) h (c .before .entry-ok .ensures) in
+    let e = entry-test (a .g) (now (a .card)) _ _ (entryOk (a .g) (a .bound .0) (tableIn (a .g) (a .v) (sec (now (a .card))))) (c .before .before .before .place-of .ensures) h (c .before .entry-ok .ensures) in
     every-stop _ _ [] _ _ (entries-lt _ _ _ h) e (c .if1 .taken) (c .before .before .before .before .before .loop .inv .1)
 
 add-j : tie.Need-add-j Inv-loop μ-loop
@@ -66,7 +66,7 @@ loop-again : tie.Need-loop-again Inv-loop μ-loop
 loop-again c =
     let a = c .before .before .before .before .before .before .before .before .args in
     let h = c .before .before .before .before .loop-test .taken in
-    let e = entry-test (a .g) (now (a .card)) _ _ (entryOk (a .g) (a .bound) (tableIn (a .g) (a .v) (sec (now (a .card))))) (c .before .before .before .place-of .ensures) h (c .before .entry-ok .ensures) in
+    let e = entry-test (a .g) (now (a .card)) _ _ (entryOk (a .g) (a .bound .0) (tableIn (a .g) (a .v) (sec (now (a .card))))) (c .before .before .before .place-of .ensures) h (c .before .entry-ok .ensures) in
     (omega arith, every-go _ _ [] _ _ (entries-lt _ _ _ h) e (c .if1 .left) (c .before .before .before .before .before .loop .inv .1))
 
 returns-2 : tie.Need-returns-2 Inv-loop μ-loop
