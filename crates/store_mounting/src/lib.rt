@@ -1,5 +1,6 @@
 // The one write of mount, and the sectors that it and sync write.
 ghost use mathlib.Core.Path.{_≡_};
+ghost use mathlib.Core.Logic.{_⊎_};
 ghost use Prim.Native.Nat.{_+_, _*_, _≤_, _<_};
 ghost use lib.ListN.{length, take};
 ghost use Rattle.words.specs.Lists.{splice};
@@ -59,13 +60,24 @@ fn mount_step(card: &mut [u8], k: u32)
     sectors::write_sector(card, Sector(0), &block)
 }
 
+// k, or the number of places where k is past the last one.
+pub fn up_to(k: u32, places: u32) -> u32
+    ensures { λ r. ⌜ ((r ≡ k) × (k ≤ places)) ⊎ ((r ≡ places) × (places ≤ k)) ⌝ }
+{
+    if places < k {
+        return places;
+    }
+    k
+}
+
 // The first k steps of mount.
 pub fn mount_steps(card: &mut [u8], k: u32)
     requires { ⌜ CanMount (now card) ⌝ }
     ensures { λ _. ⌜ now (card .exit) ≡ applySteps (take k (mountSteps (now (card .entry)))) (now (card .entry)) ⌝ }
 {
+    let end = up_to(k, 2);
     let mut i: u32 = 0;
-    while i < k {
+    while i < end {
         mount_step(card, i);
         i += 1;
     }

@@ -49,9 +49,10 @@ pub fn sync_steps(s: Opened, card: &mut [u8], work: &[u8], k: u32) -> u32
     requires { ⌜ CanSync s (now card) (now work) ⌝ }
     ensures { λ r. ⌜ (now (card .exit) ≡ applySteps (take (syncedAt s (now (card .entry)) (now (work .entry)) k) (syncSteps s (now (card .entry)) (now (work .entry)) [])) (now (card .entry))) × (r ≡ writtenAt s (now (card .entry)) (now (work .entry)) k) ⌝ }
 {
+    let end = store_mounting::up_to(k, s.geo.s - s.geo.t + 3);
     let mut written: u32 = 0;
     let mut i: u32 = 0;
-    while i < k {
+    while i < end {
         let one = sync_step(s, card, work, i);
         written += one;
         i += 1;
@@ -152,9 +153,10 @@ pub fn unmount_steps(s: Opened, card: &mut [u8], work: &[u8], k: u32) -> u32
     requires { ⌜ CanSync s (now card) (now work) ⌝ }
     ensures { λ r. ⌜ (now (card .exit) ≡ applySteps (take (downAt s (now (card .entry)) (now (work .entry)) k) (unmountSteps s (now (card .entry)) (now (work .entry)))) (now (card .entry))) × (r ≡ countedAt (s .worn) s (now (card .entry)) (now (work .entry)) k) ⌝ }
 {
+    let end = store_mounting::up_to(k, s.geo.s - s.geo.t + 4);
     let mut written: u32 = 0;
     let mut i: u32 = 0;
-    while i < k {
+    while i < end {
         let one = unmount_step(s, card, work, i);
         written += one;
         i += 1;
