@@ -284,6 +284,11 @@ struct store_answer fitting_get(const uint8_t session[24],
                                 const uint8_t *name, size_t name_len,
                                 uint8_t *out, size_t out_len);
 
+/* 4, 10 */
+struct store_answer fitting_list(const uint8_t session[24],
+                                 const uint8_t *work, size_t work_len,
+                                 struct store_line *lines, size_t lines_len);
+
 /* 4 */
 uint32_t fitting_free(const uint8_t session[24],
                       const uint8_t *work, size_t work_len, uint8_t out[8]);

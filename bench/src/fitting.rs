@@ -14,11 +14,11 @@
 //! call's.
 
 use crate::host::{self, Answer, Goal, RoomBytes, SessionBytes};
-use crate::plain::SESSION_BYTES;
+use crate::plain::{Line, SESSION_BYTES};
 
 /// The symbols of the library `fitting`, with the arguments of the host's.
 mod symbols {
-    use super::{Answer, RoomBytes, SessionBytes};
+    use super::{Answer, Line, RoomBytes, SessionBytes};
 
     extern "C" {
         pub fn fitting_put(
@@ -55,6 +55,13 @@ mod symbols {
             name_len: usize,
             out: *mut u8,
             out_len: usize,
+        ) -> Answer;
+        pub fn fitting_list(
+            session: *const SessionBytes,
+            work: *const u8,
+            work_len: usize,
+            lines: *mut Line,
+            lines_len: usize,
         ) -> Answer;
         pub fn fitting_free(
             session: *const SessionBytes,
@@ -211,6 +218,14 @@ impl Module {
         let (out_len, out) = (out.len(), out.as_mut_ptr());
         // SAFETY: see above.
         unsafe { symbols::fitting_get(&self.session, work, work_len, name, name_len, out, out_len) }
+    }
+
+    /// Fills the first lines of a table, one a file, and counts them: 4, 10.
+    pub fn list(&self, lines: &mut [Line]) -> Answer {
+        let (work, work_len) = (self.work.as_ptr(), self.work.len());
+        let (lines_len, lines) = (lines.len(), lines.as_mut_ptr());
+        // SAFETY: see above; any bytes the function leaves are a line.
+        unsafe { symbols::fitting_list(&self.session, work, work_len, lines, lines_len) }
     }
 
     /// Counts the sectors free in both views, and those that the next sync

@@ -129,6 +129,7 @@ fn tight_lists_every_buffer_of_every_public_function() {
         "store_card",
         "store_edit",
         "store_look",
+        "store_listing",
         "card_read",
         "host",
         "lists",
@@ -156,16 +157,25 @@ fn tight_compares_every_inner_call_with_its_public_one() {
     let file = crates().join("promises_tight/specs/Inner.antt");
     let text = fs::read_to_string(file).expect("tight states it");
     let mut inner = 0;
-    for name in ["store_card", "store_edit", "store_look", "fitting"] {
+    for name in [
+        "store_card",
+        "store_edit",
+        "store_look",
+        "store_listing",
+        "fitting",
+    ] {
         for (function, f) in functions(name) {
             if f.public && f.requires {
                 inner += 1;
-                let stands = text.contains(&format!(" {function}.Pre {function}.Post "));
+                let plain = format!(" {function}.Pre {function}.Post ");
+                let lines = format!(".ended (λ M 𝓤. {function}.clauses 𝓤) ");
+                let stands = text.contains(&plain) || text.contains(&lines);
                 assert!(stands, "{name}::{function}");
             }
         }
     }
-    assert_eq!(inner, text.matches(" : Inner ").count());
+    let stated = text.matches(" : Inner ").count() + text.matches(" : InnerLines ").count();
+    assert_eq!(inner, stated);
 }
 
 /// The lines of a body that hand a buffer on to be written, or write to it themselves.

@@ -1,5 +1,6 @@
 //! Histories of a module, which leaves the fit test out, beside the tested
-//! calls: numbers, counts, sessions, figures, contents and all bytes alike.
+//! calls: numbers, counts, sessions, figures, contents, lines and all bytes
+//! alike.
 
 use super::op::{Cuttable, Op, Which};
 use super::summary::Tally;
@@ -8,7 +9,7 @@ use crate::dice::Dice;
 use crate::fitting::Module;
 use crate::host::{self, Goal, SessionBytes};
 use crate::plain::steps::{self, Step};
-use crate::plain::{self, Session, MOST_SECTORS, SECTOR};
+use crate::plain::{self, Line, Session, MOST_SECTORS, SECTOR};
 
 /// The tested calls with their images and session, and the module.
 struct Twins {
@@ -156,6 +157,25 @@ impl Twins {
         Ok(())
     }
 
+    /// The files into a table that is long enough, and into one of a line.
+    fn list(&mut self) -> Outcome {
+        for length in [1, 256] {
+            let rubbish = Line {
+                length: 0xEE,
+                ..Line::default()
+            };
+            let [mut one, mut other] = [vec![rubbish; length], vec![rubbish; length]];
+            let tested = host::list(&self.session, &self.work, &mut one);
+            let answer = self.module.list(&mut other);
+            self.same(tested.number, answer.number)?;
+            alike("counts", &tested.count, &answer.count)?;
+            if one != other {
+                return Err("the module's lines differ".into());
+            }
+        }
+        Ok(())
+    }
+
     /// The card writes of a call from here, barriers and all.
     fn steps_of(&self, call: Cuttable) -> Vec<Step> {
         let session = Session::decode(&self.session);
@@ -197,7 +217,7 @@ impl Twins {
         alike("numbers", &tested, &other)
     }
 
-    /// Session, both images and both figures.
+    /// Session, both images, both figures and the list.
     fn alike(&mut self) -> Outcome {
         alike("sessions", &&self.session, &self.module.session())?;
         let [mut one, mut other] = [[0xEE; 8]; 2];
@@ -208,7 +228,7 @@ impl Twins {
         if self.card != self.module.card() || self.work != self.module.work() {
             return Err("the module's images differ".into());
         }
-        Ok(())
+        self.list()
     }
 }
 

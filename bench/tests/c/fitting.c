@@ -24,11 +24,13 @@ int main(void)
 {
     const uint8_t name[4] = {'l', 'e', 'f', 't'};
     uint8_t content[513], out[2][513], room[2][STORE_ROOM_BYTES];
+    struct store_line lines[2][4];
     struct store_answer one, other;
 
     memset(content, 7, sizeof content);
     memset(out, 0, sizeof out);
     memset(room, 0, sizeof room);
+    memset(lines, 0xEE, sizeof lines);
     if (store_make(SECTORS, 1, 1, with.card, BYTES) != STORE_DONE) {
         return 1;
     }
@@ -61,6 +63,11 @@ int main(void)
     ALIKE(one.number, other.number);
     ALIKE(one.count, other.count);
     ALIKE(memcmp(out[0], out[1], sizeof out[0]), 0);
+    one = store_list(with.session, with.work, BYTES, lines[0], 4);
+    other = fitting_list(without.session, without.work, BYTES, lines[1], 4);
+    ALIKE(one.number, other.number);
+    ALIKE(one.count, other.count);
+    ALIKE(memcmp(lines[0], lines[1], sizeof lines[0]), 0);
     one = store_sync_count(with.session, with.card, BYTES, with.work, BYTES);
     other = fitting_sync_count(without.session, without.card, BYTES, without.work, BYTES);
     ALIKE(one.number, other.number);

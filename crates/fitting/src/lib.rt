@@ -1,20 +1,22 @@
-// The store for a module that answers for its session: the functions of crate host without the test of the fit.
+// The store for a module that answers for its session: the functions of crates host and lists without the test of the fit.
 //
 // A caller must know what each function requires: that an open session fits the working image it is lent. In a history it always does
 // (`always-fits`, promises_crash/FitHistory): every session starts with our mount, only the newest is used, and nobody else touches the images. A closed session
-// is taken, and answered 4. Each function then answers as the one of crate host with the same signature, byte for byte: its `ensures` is the same.
+// is taken, and answered 4. Each function then answers as the one of those crates with the same signature, byte for byte: its `ensures` is the same.
 //
-// Slices, arrays and numbers cross as in crate host, a session as the same 24 bytes; mount, make and reading are that crate's.
+// Slices, arrays and numbers cross as in crate host, a session as the same 24 bytes; mount, make and reading are those crates'.
 ghost use mathlib.Core.Path.{_≡_};
 ghost use Rattle.store.specs.Edit.{put, putAt, remove};
 ghost use Rattle.store.specs.Inner.{FitOf};
-ghost use Rattle.store.specs.Look.{get, free};
+ghost use Rattle.store.specs.Look.{get, list, free};
 ghost use Rattle.store.specs.Sync.{land, sync, unmount};
 ghost use Rattle.host_crossing.specs.Crossing.{decoded, roomed, kept};
 use card::Answer;
+use card::Line;
 use host_crossing::decoded;
 use host_crossing::give_room;
 use host_crossing::keep;
+use host_crossing::session_at;
 use sectors::Sector;
 use store_card::land_fitting;
 use store_card::sync_fitting;
@@ -22,6 +24,7 @@ use store_card::unmount_fitting;
 use store_edit::put_at_fitting;
 use store_edit::put_fitting;
 use store_edit::remove_fitting;
+use store_listing::list_fitting;
 use store_look::free_fitting;
 use store_look::get_fitting;
 
@@ -86,6 +89,16 @@ pub extern "C" fn fitting_get(
     let b = *session;
     let s = decoded(b);
     get_fitting(s, work, name, out)
+}
+
+// list: 4, 10; each line is a file's, the files are counted, and later lines stay.
+#[no_mangle]
+pub extern "C" fn fitting_list(session: &[u8; 24], work: &[u8], lines: &mut [Line]) -> Answer
+    requires { ⌜ FitOf (decoded (now session)) (now work) ⌝ }
+    ensures { λ r. ⌜ (r ≡ list (decoded (now (session .entry))) (now (work .entry)) (now (lines .entry)) .answer) × (now (lines .exit) ≡ list (decoded (now (session .entry))) (now (work .entry)) (now (lines .entry)) .lines) ⌝ }
+{
+    let s = session_at(session);
+    list_fitting(s, work, lines)
 }
 
 // free: 4; the words free and waiting, and on a refusal the output as lent.

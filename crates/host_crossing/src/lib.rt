@@ -56,6 +56,14 @@ pub fn decoded(b: [u8; 24]) -> Session
     session_of(state, geo, CrashCount(c), TxCount(tx))
 }
 
+// The session that a host's 24 bytes hold.
+pub fn session_at(b: &[u8; 24]) -> Session
+    ensures { λ r. ⌜ r ≡ decoded (now (b .entry)) ⌝ }
+{
+    let bytes = *b;
+    decoded(bytes)
+}
+
 // 2 where the session is worn, else 1.
 fn state_of(worn: bool) -> u32
     ensures { λ r. ⌜ r ≡ stateOf worn ⌝ }

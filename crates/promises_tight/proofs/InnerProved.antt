@@ -9,6 +9,7 @@ inner-calls =
       ofPutAt = λ κs a. (refl, λ x s. refl);
       ofRemove = λ κs a. (refl, λ x s. refl);
       ofGet = λ κs a. (refl, λ x s. refl);
+      ofList = record { asks = λ M 𝓤 H A mem run κs a g. refl; says = λ M 𝓤 H A mem run κs a g h r s. refl };
       ofFree = λ κs a. (refl, λ x s. refl);
       ofLine = λ κs a. (refl, λ x s. refl);
       ofLand = λ κs a. (refl, λ x s. refl);
@@ -18,6 +19,7 @@ inner-calls =
       ofFittingPutAt = λ κs a. (refl, λ x s. refl);
       ofFittingRemove = λ κs a. (refl, λ x s. refl);
       ofFittingGet = λ κs a. (refl, λ x s. refl);
+      ofFittingList = record { asks = λ M 𝓤 H A mem run κs a g. refl; says = λ M 𝓤 H A mem run κs a g h r s. refl };
       ofFittingFree = λ κs a. (refl, λ x s. refl);
       ofFittingLand = λ κs a. (refl, λ x s. refl);
       ofFittingSync = λ κs a. (refl, λ x s. refl);

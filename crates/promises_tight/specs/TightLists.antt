@@ -17,8 +17,8 @@ use Rattle.card.specs.declared.Line.{Line}
 use Rattle.card.specs.Reading.{readList}
 use Rattle.store.specs.Look.{list}
 use Rattle.host_crossing.specs.Crossing.{decoded}
-use Rattle.lists.proofs.list as list·is
-use Rattle.lists.proofs.read_list as read_list·is
+use Rattle.store_listing.proofs.list as list·is
+use Rattle.store_listing.proofs.read_list as read_list·is
 use Rattle.lists.proofs.store_list as store_list·is
 use Rattle.lists.proofs.store_read_list as store_read_list·is
 

@@ -48,15 +48,15 @@ use Rattle.card.proofs.Answer as N
 use Rattle.card.proofs.Answer.Laws as N′
 use Rattle.session.proofs.Session as E
 use Rattle.session.proofs.Session.Laws as E′
-use Rattle.lists.proofs.Filling.{Lasts, imgVal, tableVal}
-use Rattle.lists.proofs.session_at as at-bytes
-use Rattle.lists.proofs.session_at.Symbol as at-bytes-def
-use Rattle.lists.proofs.session_at.Symbol.{name as #lists·session-at}
-use Rattle.lists.proofs.session_at.Met as at-bytes-thm
-use Rattle.lists.proofs.list as inner
-use Rattle.lists.proofs.list.Symbol as inner-def
-use Rattle.lists.proofs.list.Symbol.{name as #lists·list}
-use Rattle.lists.proofs.list.Met as inner-thm
+use Rattle.store_listing.proofs.Filling.{Lasts, imgVal, tableVal}
+use Rattle.host_crossing.proofs.session_at as at-bytes
+use Rattle.host_crossing.proofs.session_at.Symbol as at-bytes-def
+use Rattle.host_crossing.proofs.session_at.Symbol.{name as #host-crossing·session-at}
+use Rattle.host_crossing.proofs.session_at.Met as at-bytes-thm
+use Rattle.store_listing.proofs.list as inner
+use Rattle.store_listing.proofs.list.Symbol as inner-def
+use Rattle.store_listing.proofs.list.Symbol.{name as #store-listing·list}
+use Rattle.store_listing.proofs.list.Met as inner-thm
 use Rattle.lists.proofs.store_list.Key.{name as #lists·store-list}
 use Rattle.lists.proofs.store_list as f
 use Rattle.lists.proofs.store_list.Statement as stated
@@ -140,7 +140,7 @@ module _ {M : Type 1} (𝓤 : URA M) (H : Heap 𝓤) (A : Atoms 𝓤) (W : Given
       suffices ! _ (ends-at 𝓤 H A f.ended stayed (f.clauses 𝓤 H A at-mem run) W (((κ₀, (κ₁, (κ₂, tt))), (q₀, (q₁, (q₂, tt))), tt, a, at), tt) w n (tt, (tt, (zs, tt))) (tt, (tt, (l, tt)))) $ says ! e $ frame ! $
       nothing ! $ move ! (1 ∷ 0 ∷ []) $ fjoin ! $ move ! (1 ∷ 0 ∷ []) $ fjoin ! $ move ! (1 ∷ 0 ∷ []) $ fjoin ! $ frame ! $ done !
 
-  walk : (𝓣 : Tables 𝓤 H) → Triple 𝓤 (𝓣 .C #lists·session-at) (AtBytes 𝓤 H A at-mem run) → Triple 𝓤 (𝓣 .C #lists·list) (Inner 𝓤 H A at-mem run)
+  walk : (𝓣 : Tables 𝓤 H) → Triple 𝓤 (𝓣 .C #host-crossing·session-at) (AtBytes 𝓤 H A at-mem run) → Triple 𝓤 (𝓣 .C #store-listing·list) (Inner 𝓤 H A at-mem run)
       → ent 𝓤 (onEntry 𝓤 H A f.signature (κ₀, (κ₁, (κ₂, tt))) (q₀, (q₁, (q₂, tt))) a at) (WpFn 𝓤 H (𝓣 .C) (𝓣 .Λ) code.function (pv ∷ sv ∷ lv ∷ []) Post)
   walk 𝓣 known-bytes known-list =
       qed W ((‵ (flft κ₀ q₀) ⊛ Later) ∷ ‵ (owns (ShrRef (named 0) κ₀ B ∷ ShrSlice (named 1) κ₁ u8 ∷ MutSlice (named 2) κ₂ T.the-row ∷ []) a at) ∷ []) ∵ enter ! (𝓣 .C) (𝓣 .Λ) code.function (pv ∷ sv ∷ lv ∷ []) _ $
@@ -173,7 +173,7 @@ module _ {M : Type 1} (𝓤 : URA M) (H : Heap 𝓤) (A : Atoms 𝓤) (W : Given
       move ! (5 ∷ []) $ split ! $ keep ! (0 ∷ 3 ∷ 4 ∷ 6 ∷ 7 ∷ 2 ∷ []) $ join ! $
       by ! (exits n w (zs .1 .1 .0) (subst (λ (r : Session). Said r n (zs .1 .1 .0)) ez e) l))))))))))))))))))
 
-module _ {M : Type 1} (𝓤 : URA M) (H : Heap 𝓤) (A : Atoms 𝓤) (W : Given 𝓤 H A) (at-mem : Memory → SProp 𝓤) (run : Routine → Fun 𝓤) (𝓣 : Tables 𝓤 H) (known-bytes : Triple 𝓤 (𝓣 .C #lists·session-at) (AtBytes 𝓤 H A at-mem run)) (known-list : Triple 𝓤 (𝓣 .C #lists·list) (Inner 𝓤 H A at-mem run)) where
+module _ {M : Type 1} (𝓤 : URA M) (H : Heap 𝓤) (A : Atoms 𝓤) (W : Given 𝓤 H A) (at-mem : Memory → SProp 𝓤) (run : Routine → Fun 𝓤) (𝓣 : Tables 𝓤 H) (known-bytes : Triple 𝓤 (𝓣 .C #host-crossing·session-at) (AtBytes 𝓤 H A at-mem run)) (known-list : Triple 𝓤 (𝓣 .C #store-listing·list) (Inner 𝓤 H A at-mem run)) where
   list-walks : Walks 𝓤 H A f.ended stayed (WpFn 𝓤 H (𝓣 .C) (𝓣 .Λ) code.function) (f.clauses 𝓤 H A at-mem run)
   list-walks = walked 𝓤 H A f.ended stayed (f.clauses 𝓤 H A at-mem run) (WpFn 𝓤 H (𝓣 .C) (𝓣 .Λ) code.function)
       (λ κs. (ptr-vals, (slice-vals, (slice-vals, tt)))) (λ κs. (shr-tells (named 0) (κs .0) B, (shr-slice-tells (named 1) (κs .1 .0) u8, (mut-slice-tells (named 2) (κs .1 .1 .0) T.the-row, tt))))
@@ -191,5 +191,5 @@ store-list-spec 𝓤 H 𝓜 𝓖 𝓡 =
     entered 𝓤 H (tripleOf 𝓤 H (𝓖 .A) f.signature (f.spec 𝓤 H (𝓖 .A) (𝓜 .mem) (𝓡 .run)))
     (tables 𝓤 H 𝓜 𝓡 code.env .C) (tables 𝓤 H 𝓜 𝓡 code.env .Λ) #lists·store-list code.function (code.unfolded 𝓤 H 𝓜 𝓡)
     (list-meets 𝓤 H (𝓖 .A) (givenOf 𝓤 H 𝓜 𝓖) (𝓜 .mem) (𝓡 .run) (tablesOf 𝓤 H 𝓜 (tables 𝓤 H 𝓜 𝓡 code.env))
-    (cited 𝓤 H (AtBytes 𝓤 H (𝓖 .A) (𝓜 .mem) (𝓡 .run)) 𝓜 𝓡 code.env #lists·session-at at-bytes-def.routine code.calls-lists·session-at (at-bytes-thm.met 𝓤 H 𝓜 𝓖 𝓡))
-    (cited 𝓤 H (Inner 𝓤 H (𝓖 .A) (𝓜 .mem) (𝓡 .run)) 𝓜 𝓡 code.env #lists·list inner-def.routine code.calls-lists·list (inner-thm.met 𝓤 H 𝓜 𝓖 𝓡)))
+    (cited 𝓤 H (AtBytes 𝓤 H (𝓖 .A) (𝓜 .mem) (𝓡 .run)) 𝓜 𝓡 code.env #host-crossing·session-at at-bytes-def.routine code.calls-host-crossing·session-at (at-bytes-thm.met 𝓤 H 𝓜 𝓖 𝓡))
+    (cited 𝓤 H (Inner 𝓤 H (𝓖 .A) (𝓜 .mem) (𝓡 .run)) 𝓜 𝓡 code.env #store-listing·list inner-def.routine code.calls-store-listing·list (inner-thm.met 𝓤 H 𝓜 𝓖 𝓡)))

@@ -42,11 +42,11 @@ use Rattle.card.specs.Reading.{readList}
 use Rattle.card.proofs.Line as T
 use Rattle.card.proofs.Answer as N
 use Rattle.card.proofs.Answer.Laws as N′
-use Rattle.lists.proofs.Filling.{imgVal, tableVal, Img}
-use Rattle.lists.proofs.read_list as list
-use Rattle.lists.proofs.read_list.Symbol as list-def
-use Rattle.lists.proofs.read_list.Symbol.{name as #lists·read-list}
-use Rattle.lists.proofs.read_list.Met as list-thm
+use Rattle.store_listing.proofs.Filling.{imgVal, tableVal, Img}
+use Rattle.store_listing.proofs.read_list as list
+use Rattle.store_listing.proofs.read_list.Symbol as list-def
+use Rattle.store_listing.proofs.read_list.Symbol.{name as #store-listing·read-list}
+use Rattle.store_listing.proofs.read_list.Met as list-thm
 use Rattle.lists.proofs.store_read_list.Key.{name as #lists·store-read-list}
 use Rattle.lists.proofs.store_read_list as f
 use Rattle.lists.proofs.store_read_list.Statement as stated
@@ -106,7 +106,7 @@ module _ {M : Type 1} (𝓤 : URA M) (H : Heap 𝓤) (A : Atoms 𝓤) (W : Given
       suffices ! _ (ends-at 𝓤 H A f.ended stayed (f.clauses 𝓤 H A at-mem run) W (((κ₀, (κ₁, tt)), (q₀, (q₁, tt)), tt, a, at), tt) w n (tt, (zs, tt)) (tt, (l, tt))) $ says ! e $ frame ! $
       nothing ! $ move ! (1 ∷ 0 ∷ []) $ fjoin ! $ move ! (1 ∷ 0 ∷ []) $ fjoin ! $ frame ! $ done !
 
-  walk : (𝓣 : Tables 𝓤 H) → Triple 𝓤 (𝓣 .C #lists·read-list) (ReadList 𝓤 H A at-mem run) → ent 𝓤 (onEntry 𝓤 H A f.signature (κ₀, (κ₁, tt)) (q₀, (q₁, tt)) a at) (WpFn 𝓤 H (𝓣 .C) (𝓣 .Λ) code.function (sv ∷ lv ∷ []) Post)
+  walk : (𝓣 : Tables 𝓤 H) → Triple 𝓤 (𝓣 .C #store-listing·read-list) (ReadList 𝓤 H A at-mem run) → ent 𝓤 (onEntry 𝓤 H A f.signature (κ₀, (κ₁, tt)) (q₀, (q₁, tt)) a at) (WpFn 𝓤 H (𝓣 .C) (𝓣 .Λ) code.function (sv ∷ lv ∷ []) Post)
   walk 𝓣 known =
       qed W ((‵ (flft κ₀ q₀) ⊛ (‵ (flft κ₁ q₁) ⊛ ‵ ftrue)) ∷ ‵ (owns (ShrSlice (named 0) κ₀ u8 ∷ MutSlice (named 1) κ₁ T.the-row ∷ []) a at) ∷ []) ∵ enter ! (𝓣 .C) (𝓣 .Λ) code.function (sv ∷ lv ∷ []) _ $
       alloc1 ! (λ l₀. alloc1 ! (λ l₁. alloc1 ! (λ l₂. alloc1 ! (λ l₃. alloc1 ! (λ l₄. alloc0 ! $ params1 ! $
@@ -129,7 +129,7 @@ module _ {M : Type 1} (𝓤 : URA M) (H : Heap 𝓤) (A : Atoms 𝓤) (W : Given
       move ! (13 ∷ 14 ∷ []) $ free1 ! $ move ! (11 ∷ 12 ∷ []) $ free1 ! $ move ! (9 ∷ 10 ∷ []) $ free1 ! $ move ! (7 ∷ 8 ∷ []) $ free1 ! $ move ! (5 ∷ 6 ∷ []) $ free1 ! $ free0 ! $
       keep ! (1 ∷ 2 ∷ 4 ∷ 0 ∷ []) $ by ! (exits n w (zs .1 .0) e l))))))))))))
 
-module _ {M : Type 1} (𝓤 : URA M) (H : Heap 𝓤) (A : Atoms 𝓤) (W : Given 𝓤 H A) (at-mem : Memory → SProp 𝓤) (run : Routine → Fun 𝓤) (𝓣 : Tables 𝓤 H) (known : Triple 𝓤 (𝓣 .C #lists·read-list) (ReadList 𝓤 H A at-mem run)) where
+module _ {M : Type 1} (𝓤 : URA M) (H : Heap 𝓤) (A : Atoms 𝓤) (W : Given 𝓤 H A) (at-mem : Memory → SProp 𝓤) (run : Routine → Fun 𝓤) (𝓣 : Tables 𝓤 H) (known : Triple 𝓤 (𝓣 .C #store-listing·read-list) (ReadList 𝓤 H A at-mem run)) where
   list-walks : Walks 𝓤 H A f.ended stayed (WpFn 𝓤 H (𝓣 .C) (𝓣 .Λ) code.function) (f.clauses 𝓤 H A at-mem run)
   list-walks = walked 𝓤 H A f.ended stayed (f.clauses 𝓤 H A at-mem run) (WpFn 𝓤 H (𝓣 .C) (𝓣 .Λ) code.function)
       (λ κs. (slice-vals, (slice-vals, tt))) (λ κs. (shr-slice-tells (named 0) (κs .0) u8, (mut-slice-tells (named 1) (κs .1 .0) T.the-row, tt)))
@@ -147,4 +147,4 @@ store-read-list-spec 𝓤 H 𝓜 𝓖 𝓡 =
     entered 𝓤 H (tripleOf 𝓤 H (𝓖 .A) f.signature (f.spec 𝓤 H (𝓖 .A) (𝓜 .mem) (𝓡 .run)))
     (tables 𝓤 H 𝓜 𝓡 code.env .C) (tables 𝓤 H 𝓜 𝓡 code.env .Λ) #lists·store-read-list code.function (code.unfolded 𝓤 H 𝓜 𝓡)
     (list-meets 𝓤 H (𝓖 .A) (givenOf 𝓤 H 𝓜 𝓖) (𝓜 .mem) (𝓡 .run) (tablesOf 𝓤 H 𝓜 (tables 𝓤 H 𝓜 𝓡 code.env))
-    (cited 𝓤 H (ReadList 𝓤 H (𝓖 .A) (𝓜 .mem) (𝓡 .run)) 𝓜 𝓡 code.env #lists·read-list list-def.routine code.calls-lists·read-list (list-thm.met 𝓤 H 𝓜 𝓖 𝓡)))
+    (cited 𝓤 H (ReadList 𝓤 H (𝓖 .A) (𝓜 .mem) (𝓡 .run)) 𝓜 𝓡 code.env #store-listing·read-list list-def.routine code.calls-store-listing·read-list (list-thm.met 𝓤 H 𝓜 𝓖 𝓡)))

@@ -5,23 +5,17 @@ use mathlib.Core.List.{List}
 use Prim.Native.Nat.{ℕ}
 use lib.Dec.{leb}
 use lib.ListN.{length}
-use Rattle.sectors.specs.Sectors.{sec}
 use Rattle.counts.specs.declared.Geo.{Geo}
 use Rattle.counts.specs.declared.View.{View}
-use Rattle.counts.specs.Geometry.{geoOf, tableOf}
-use Rattle.counts.specs.Stamps.{tableIn, asIs}
 use Rattle.card.specs.Plan.{guard, ended, doIt, done}
 use Rattle.card.specs.Files.{listPlan}
-use Rattle.card.specs.Sound.{shapeOk, sound}
-use Rattle.card.specs.Reading.{filesIn, filesShown, readPlan}
-use Rattle.card.proofs.SoundTests.{shape-laid, as-table}
 use Rattle.session.specs.declared.Opened.{Opened}
 use Rattle.session.specs.declared.Session.the-variants.{Open}
 use Rattle.session.specs.Views.{presentView, presentTable, presentFiles}
 use Rattle.session.specs.Fits.{fits}
 use Rattle.store.specs.Look.{listTests}
-use Rattle.lists.specs.declared.Listing.{Listing}
-use Rattle.lists.specs.Listings.{filesBy, noListing, viewListing, presentListing, listingIn, sessionListing, cardListing}
+use Rattle.store_listing.specs.declared.Listing.{Listing}
+use Rattle.store_listing.specs.Listings.{filesBy, noListing, viewListing, presentListing, listingIn, sessionListing}
 
 pub in-text : (g : Geo) (v : View) (img : List ℕ) (room : ℕ) → listingIn g v img room
     ≡ cond (leb (length (filesBy g v img)) room) (record { answer = done (length (filesBy g v img)); geo = g; view = v }) (noListing 10)
@@ -42,18 +36,3 @@ session-text s work room = go (fits s work)
         ≡ cond b (ended (listPlan (filesBy (s .geo) (presentView s) work) room) noListing (λ j a. viewListing (s .geo) (presentView s) work)) (noListing 2)
     go true = refl
     go false = refl
-
-pub card-text : (card : List ℕ) (room : ℕ) → cardListing card room
-    ≡ cond (shapeOk card) (cond (sound card) (listingIn (geoOf (sec card)) (asIs (geoOf (sec card))) card room) (noListing 2)) (noListing 1)
-unfolding cardListing readPlan listingIn filesShown filesIn filesBy guard ended
-card-text card room = go (shapeOk card) (sound card) refl
-  where
-    g : Geo
-    g = geoOf (sec card)
-
-    go : (b c : Bool) → shapeOk card ≡ b
-        → ended (guard 1 b (guard 2 c (listPlan (filesShown card) room))) noListing (λ j a. viewListing g (asIs g) card)
-        ≡ cond b (cond c (ended (listPlan (filesBy g (asIs g) card) room) noListing (λ j a. viewListing g (asIs g) card)) (noListing 2)) (noListing 1)
-    go true true e = let t : tableIn g (asIs g) (sec card) ≡ tableOf g (sec card) = as-table g card (shape-laid card g refl e) refl in rw t
-    go true false e = refl
-    go false c e = refl

@@ -2,7 +2,7 @@
 use mathlib.Core.List.{List}
 use Prim.Native.Nat.{ℕ, _≤_, _<_}
 use Rattle.counts.specs.Inner.{LaidOut}
-use Rattle.lists.specs.declared.Listing.{Listing}
+use Rattle.store_listing.specs.declared.Listing.{Listing}
 
 -- the lines that a listing counts have room, and are those of an image laid out
 abbrev pub HasRoom : Listing → List ℕ → ℕ → Type 0

@@ -60,28 +60,26 @@ use Rattle.card.proofs.Answer.Laws as N′
 use Rattle.card_files.specs.declared.Next.{Next}
 use Rattle.card_files.proofs.Next as X
 use Rattle.card_files.proofs.Next.Laws as X′
-use Rattle.lists.specs.declared.Listing.{Listing}
-use Rattle.lists.specs.Listings.{filesAt, filesFrom, filledTo}
-use Rattle.lists.proofs.ListingLaws.{length-filledTo, from-start, from-next, line-next}
-use Rattle.lists.specs.Inner.{HasRoom}
-use Rattle.lists.proofs.Listing as Z
-use Rattle.lists.proofs.Listing.Laws as Z′
-use Rattle.lists.proofs.next_of as line
-use Rattle.lists.proofs.next_of.Symbol as line-def
-use Rattle.lists.proofs.next_of.Symbol.{name as #lists·next-of}
-use Rattle.lists.proofs.next_of.Met as line-thm
-use Rattle.lists.proofs.fill_lines.Key.{name as #lists·fill-lines}
-use Rattle.lists.proofs.fill_lines as f
-use Rattle.lists.proofs.fill_lines.Statement as stated
-use Rattle.lists.proofs.fill_lines.Code as code
-use Rattle.lists.proofs.fill_lines.Code.Mir as Mir
+use Rattle.store_listing.specs.declared.Listing.{Listing}
+use Rattle.store_listing.specs.Listings.{filesAt, filesFrom, filledTo}
+use Rattle.store_listing.proofs.ListingLaws.{length-filledTo, from-start, from-next, line-next}
+use Rattle.store_listing.specs.Inner.{HasRoom}
+use Rattle.store_listing.proofs.Listing as Z
+use Rattle.store_listing.proofs.Listing.Laws as Z′
+use Rattle.store_listing.proofs.Values.{the-one}
+use Rattle.store_listing.proofs.next_of as line
+use Rattle.store_listing.proofs.next_of.Symbol as line-def
+use Rattle.store_listing.proofs.next_of.Symbol.{name as #store-listing·next-of}
+use Rattle.store_listing.proofs.next_of.Met as line-thm
+use Rattle.store_listing.proofs.fill_lines.Key.{name as #store-listing·fill-lines}
+use Rattle.store_listing.proofs.fill_lines as f
+use Rattle.store_listing.proofs.fill_lines.Statement as stated
+use Rattle.store_listing.proofs.fill_lines.Code as code
+use Rattle.store_listing.proofs.fill_lines.Code.Mir as Mir
 
 next-filledTo : (files : List Line) (n : ℕ) (ys : List Line) (r : Line) → r ≡ getD files n noLine → set (filledTo files n ys) n r ≡ filledTo files (n + 1) ys
 unfolding filledTo
 next-filledTo files n ys r e = ap (λ (l : Line). set (filledTo files n ys) n l) e ∙ ap (λ (m : ℕ). filledTo files m ys) (sym (add-one n))
-
-the-one : (u v : Val) → (u ∷ []) ≡ (v ∷ []) → u ≡ v
-the-one u v e = ap (λ (vs : List Val). getD vs 0 u) e
 
 abbrev Arg : Type 0
 Arg = RefT (List ℕ) × (Listing × (RefT (List Line) × Unit {0}))
@@ -180,7 +178,7 @@ module _ {M : Type 1} (𝓤 : URA M) (H : Heap 𝓤) (A : Atoms 𝓤) (W : Given
   Nearer-wf : WellFounded Nearer
   Nearer-wf = InvImage·wf (λ (i : Upto). count - i .0) (Nat·lt-wfRel .wf)
 
-  module _ (𝓣 : Tables 𝓤 H) (known-line : Triple 𝓤 (𝓣 .C #lists·next-of) (NextOf 𝓤 H A at-mem run)) (l₀ l₁ l₂ l₃ l₄ l₅ l₆ l₇ l₈ l₉ l₁₀ : ℕ) where
+  module _ (𝓣 : Tables 𝓤 H) (known-line : Triple 𝓤 (𝓣 .C #store-listing·next-of) (NextOf 𝓤 H A at-mem run)) (l₀ l₁ l₂ l₃ l₄ l₅ l₆ l₇ l₈ l₉ l₁₀ : ℕ) where
     abbrev C : Calls 𝓤 H
     C = 𝓣 .C
 
@@ -278,7 +276,7 @@ module _ {M : Type 1} (𝓤 : URA M) (H : Heap 𝓤) (A : Atoms 𝓤) (W : Given
         fsplit ! $ move ! (1 ∷ []) $ fsplit ! $ move ! (27 ∷ []) $ split ! $ move ! (1 ∷ []) $ split ! $ move ! (3 ∷ 4 ∷ 0 ∷ []) $ opens-slice ! tt T.the-row ys b o $
         keep ! (0 ∷ 8 ∷ 5 ∷ 1 ∷ 2 ∷ 3 ∷ 9 ∷ 10 ∷ 11 ∷ 12 ∷ 13 ∷ 14 ∷ 15 ∷ 16 ∷ 17 ∷ 18 ∷ 19 ∷ 20 ∷ 21 ∷ 22 ∷ 23 ∷ 24 ∷ 25 ∷ 26 ∷ 27 ∷ 28 ∷ 29 ∷ 30 ∷ []) $ looped
 
-  walk : (𝓣 : Tables 𝓤 H) → Triple 𝓤 (𝓣 .C #lists·next-of) (NextOf 𝓤 H A at-mem run)
+  walk : (𝓣 : Tables 𝓤 H) → Triple 𝓤 (𝓣 .C #store-listing·next-of) (NextOf 𝓤 H A at-mem run)
       → ent 𝓤 (onEntry 𝓤 H A f.signature (κ₀, (κ₁, tt)) (q₀, (q₁, tt)) a at) (WpFn 𝓤 H (𝓣 .C) (𝓣 .Λ) code.function (sv ∷ zv ∷ lv ∷ []) Post)
   walk 𝓣 known-line =
       qed W ((‵ (flft κ₀ q₀) ⊛ (‵ (flft κ₁ q₁) ⊛ ‵ ftrue)) ∷ ‵ (owns (ShrSlice (named 0) κ₀ u8 ∷ Z.the-row ∷ MutSlice (named 1) κ₁ T.the-row ∷ []) a at) ∷ []) ∵ enter ! (𝓣 .C) (𝓣 .Λ) code.function (sv ∷ zv ∷ lv ∷ []) _ $
@@ -286,7 +284,7 @@ module _ {M : Type 1} (𝓤 : URA M) (H : Heap 𝓤) (A : Atoms 𝓤) (W : Given
       pass1 ! (init ! 18 refl (tt, (tt, (record { fits = gx .0 }, tt)))) $ pass1 ! (init ! 16 refl (LL.lawful Z.the-type Z′.the-laws 𝓤 H A W .typed z _ gz .0)) $ pass1 ! (init ! 14 refl (tt, (tt, (record { fits = gn .0 }, tt)))) $ pass0 ! $
       starts 𝓣 known-line l₀ l₁ l₂ l₃ l₄ l₅ l₆ l₇ l₈ l₉ l₁₀)))))))))))
 
-module _ {M : Type 1} (𝓤 : URA M) (H : Heap 𝓤) (A : Atoms 𝓤) (W : Given 𝓤 H A) (at-mem : Memory → SProp 𝓤) (run : Routine → Fun 𝓤) (𝓣 : Tables 𝓤 H) (known-line : Triple 𝓤 (𝓣 .C #lists·next-of) (NextOf 𝓤 H A at-mem run)) where
+module _ {M : Type 1} (𝓤 : URA M) (H : Heap 𝓤) (A : Atoms 𝓤) (W : Given 𝓤 H A) (at-mem : Memory → SProp 𝓤) (run : Routine → Fun 𝓤) (𝓣 : Tables 𝓤 H) (known-line : Triple 𝓤 (𝓣 .C #store-listing·next-of) (NextOf 𝓤 H A at-mem run)) where
   fill-walks : Walks 𝓤 H A f.ended stayed (WpFn 𝓤 H (𝓣 .C) (𝓣 .Λ) code.function) (f.clauses 𝓤 H A at-mem run)
   fill-walks = walked 𝓤 H A f.ended stayed (f.clauses 𝓤 H A at-mem run) (WpFn 𝓤 H (𝓣 .C) (𝓣 .Λ) code.function)
       (λ κs. (slice-vals, (LL.vals Z.the-type Z′.the-laws, (slice-vals, tt)))) (λ κs. (shr-slice-tells (named 0) (κs .0) u8, (LL.tells Z.the-type Z′.the-laws, (mut-slice-tells (named 1) (κs .1 .0) T.the-row, tt))))
@@ -302,6 +300,6 @@ pub fill-lines-spec : {M : Type 1} → stated.statement M
 unfolding code.routine tablesOf
 fill-lines-spec 𝓤 H 𝓜 𝓖 𝓡 =
     entered 𝓤 H (tripleOf 𝓤 H (𝓖 .A) f.signature (f.spec 𝓤 H (𝓖 .A) (𝓜 .mem) (𝓡 .run)))
-    (tables 𝓤 H 𝓜 𝓡 code.env .C) (tables 𝓤 H 𝓜 𝓡 code.env .Λ) #lists·fill-lines code.function (code.unfolded 𝓤 H 𝓜 𝓡)
+    (tables 𝓤 H 𝓜 𝓡 code.env .C) (tables 𝓤 H 𝓜 𝓡 code.env .Λ) #store-listing·fill-lines code.function (code.unfolded 𝓤 H 𝓜 𝓡)
     (fill-meets 𝓤 H (𝓖 .A) (givenOf 𝓤 H 𝓜 𝓖) (𝓜 .mem) (𝓡 .run) (tablesOf 𝓤 H 𝓜 (tables 𝓤 H 𝓜 𝓡 code.env))
-    (cited 𝓤 H (NextOf 𝓤 H (𝓖 .A) (𝓜 .mem) (𝓡 .run)) 𝓜 𝓡 code.env #lists·next-of line-def.routine code.calls-lists·next-of (line-thm.met 𝓤 H 𝓜 𝓖 𝓡)))
+    (cited 𝓤 H (NextOf 𝓤 H (𝓖 .A) (𝓜 .mem) (𝓡 .run)) 𝓜 𝓡 code.env #store-listing·next-of line-def.routine code.calls-store-listing·next-of (line-thm.met 𝓤 H 𝓜 𝓖 𝓡)))

@@ -1,8 +1,8 @@
 -- From what its call says. Assumes nothing.
 use borrow.Author.Needs.{needs}
-use Rattle.lists.specs.Listings.{filesFrom}
-use Rattle.lists.proofs.next_of.Statement.{statement}
-use Rattle.lists.proofs.next_of.Tie as tie
+use Rattle.store_listing.specs.Listings.{filesFrom}
+use Rattle.store_listing.proofs.next_of.Statement.{statement}
+use Rattle.store_listing.proofs.next_of.Tie as tie
 
 next-line-requires : tie.Need-next-line-requires
 next-line-requires c κs = search needs

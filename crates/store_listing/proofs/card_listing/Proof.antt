@@ -2,9 +2,9 @@
 use borrow.Author.Needs.{needs}
 use Rattle.card.proofs.SoundTests.{shape-length, shape-laid, shape-limits}
 use Rattle.store.proofs.CallLaws.{passed, failed}
-use Rattle.lists.proofs.ListingTests.{card-1, card-2, card-go}
-use Rattle.lists.proofs.card_listing.Statement.{statement}
-use Rattle.lists.proofs.card_listing.Tie as tie
+use Rattle.store_listing.proofs.CardListing.{card-1, card-2, card-go}
+use Rattle.store_listing.proofs.card_listing.Statement.{statement}
+use Rattle.store_listing.proofs.card_listing.Tie as tie
 
 shape-ok-requires : tie.Need-shape-ok-requires
 shape-ok-requires c κs = search needs

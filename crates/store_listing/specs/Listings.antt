@@ -16,7 +16,7 @@ use Rattle.session.specs.declared.Session.{Session}
 use Rattle.session.specs.declared.Session.the-variants.{Closed, Open}
 use Rattle.session.specs.Views.{presentView}
 use Rattle.store.specs.Look.{listTests}
-use Rattle.lists.specs.declared.Listing.{Listing}
+use Rattle.store_listing.specs.declared.Listing.{Listing}
 
 -- the files of a view
 unfoldable pub filesBy : Geo → View → List ℕ → List Line

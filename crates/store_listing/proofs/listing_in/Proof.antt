@@ -1,8 +1,8 @@
 -- Its one test. Assumes nothing.
 use borrow.Author.Needs.{needs}
-use Rattle.lists.proofs.ListingTests.{in-10, in-done}
-use Rattle.lists.proofs.listing_in.Statement.{statement}
-use Rattle.lists.proofs.listing_in.Tie as tie
+use Rattle.store_listing.proofs.ListingTests.{in-10, in-done}
+use Rattle.store_listing.proofs.listing_in.Statement.{statement}
+use Rattle.store_listing.proofs.listing_in.Tie as tie
 
 file-count-requires : tie.Need-file-count-requires
 file-count-requires c κs = search needs

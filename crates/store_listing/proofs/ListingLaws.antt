@@ -11,15 +11,10 @@ use lib.Seq.{take-length, drop-set-lt, drop-drop, getD-drop}
 use Rattle.sectors.specs.Sectors.{sec}
 use Rattle.counts.specs.declared.Geo.{Geo}
 use Rattle.counts.specs.declared.View.{View}
-use Rattle.counts.specs.Geometry.{geoOf}
-use Rattle.counts.specs.Stamps.{asIs}
 use Rattle.counts.specs.Inner.{LaidOut}
 use Rattle.card.specs.declared.Line.{Line}
 use Rattle.card.specs.Plan.{guard, ended, doIt, refused, done, Listed}
 use Rattle.card.specs.Files.{noLine, listPlan, listEnd}
-use Rattle.card.specs.Sound.{shapeOk, sound}
-use Rattle.card.specs.Reading.{filesIn, filesShown, readPlan, readList}
-use Rattle.card.proofs.SoundTests.{shape-laid, as-table}
 use Rattle.session.specs.declared.Opened.{Opened}
 use Rattle.session.specs.declared.Session.{Session}
 use Rattle.session.specs.declared.Session.the-variants.{Closed, Open}
@@ -27,10 +22,10 @@ use Rattle.session.specs.Views.{presentView, presentTable, presentFiles, sessio
 use Rattle.session.specs.Fits.{fits}
 use Rattle.store.specs.Look.{listTests, list}
 use Rattle.store.proofs.ViewLaws.{fit-laid}
-use Rattle.lists.specs.declared.Listing.{Listing}
-use Rattle.lists.specs.Listings.{filesBy, filesAt, filesFrom, noListing, listingIn, sessionListing, cardListing, filledTo}
-use Rattle.lists.proofs.ListingText.{in-text, session-text, card-text}
-use Rattle.lists.specs.Inner.{HasRoom}
+use Rattle.store_listing.specs.declared.Listing.{Listing}
+use Rattle.store_listing.specs.Listings.{filesBy, filesAt, filesFrom, noListing, listingIn, sessionListing, filledTo}
+use Rattle.store_listing.proofs.ListingText.{in-text, session-text}
+use Rattle.store_listing.specs.Inner.{HasRoom}
 
 -- ---- the table with its first lines filled
 
@@ -69,11 +64,11 @@ line-next files i left r e f =
     let z : i + 0 ≡ i = omega arith in
     f ∙ ap (λ (l : List Line). getD l 0 noLine) e ∙ getD-drop i files 0 noLine ∙ ap (λ (m : ℕ). getD files m noLine) z
 
-none-ready : (k : ℕ) (img : List ℕ) (room : ℕ) → HasRoom (noListing k) img room
+pub none-ready : (k : ℕ) (img : List ℕ) (room : ℕ) → HasRoom (noListing k) img room
 unfolding noListing refused
 none-ready k img room = (omega arith, λ h. absurd (omega (arith, h)))
 
-in-ready : (g : Geo) (v : View) (img : List ℕ) (room : ℕ) → LaidOut g img → HasRoom (listingIn g v img room) img room
+pub in-ready : (g : Geo) (v : View) (img : List ℕ) (room : ℕ) → LaidOut g img → HasRoom (listingIn g v img room) img room
 unfolding done
 in-ready g v img room laid = rw (in-text g v img room) (go (leb (length (filesBy g v img)) room) refl)
   where
@@ -91,25 +86,16 @@ list-ready (Open s) work room = subst (λ (l : Listing). HasRoom l work room) (s
     go true e = in-ready (s .geo) (presentView s) work room (fit-laid s work e)
     go false e = none-ready 2 work room
 
-pub read-ready : (card : List ℕ) (room : ℕ) → HasRoom (cardListing card room) card room
-read-ready card room = rw (card-text card room) (go (shapeOk card) (sound card) refl)
-  where
-    go : (b c : Bool) → shapeOk card ≡ b
-        → HasRoom (cond b (cond c (listingIn (geoOf (sec card)) (asIs (geoOf (sec card))) card room) (noListing 2)) (noListing 1)) card room
-    go true true e = in-ready (geoOf (sec card)) (asIs (geoOf (sec card))) card room (shape-laid card (geoOf (sec card)) refl e)
-    go true false e = none-ready 2 card room
-    go false c e = none-ready 1 card room
-
 -- ---- what a listing answers, and the lines it fills, are a definition's
 
 abbrev pub Fills : Listing → List ℕ → List Line → Listed → Type 0
 Fills l img lines d = (l .answer ≡ d .answer) × (filledTo (filesAt l img) (l .answer .count) lines ≡ d .lines)
 
-none-fills : (k : ℕ) (img : List ℕ) (lines : List Line) → Fills (noListing k) img lines (record { answer = refused k; lines = lines })
+pub none-fills : (k : ℕ) (img : List ℕ) (lines : List Line) → Fills (noListing k) img lines (record { answer = refused k; lines = lines })
 unfolding noListing refused filledTo
 none-fills k img lines = (refl, refl)
 
-in-fills : (g : Geo) (v : View) (img : List ℕ) (lines : List Line)
+pub in-fills : (g : Geo) (v : View) (img : List ℕ) (lines : List Line)
     → Fills (listingIn g v img (length lines)) img lines (listEnd (filesBy g v img) lines (listPlan (filesBy g v img) (length lines)))
 unfolding listPlan listEnd guard ended done filesAt
 in-fills g v img lines = rw (in-text g v img (length lines)) (go (leb (length (filesBy g v img)) (length lines)) refl)
@@ -135,20 +121,6 @@ list-fills Closed work lines = none-fills 4 work lines
 list-fills (Open s) work lines =
     subst (λ (l : Listing). Fills l work lines (list (Open s) work lines)) (sym (session-text s work (length lines))) (open-fills s work lines (fits s work))
 
-read-fills-by : (card : List ℕ) (lines : List Line) (b c : Bool) → shapeOk card ≡ b
-    → Fills (cond b (cond c (listingIn (geoOf (sec card)) (asIs (geoOf (sec card))) card (length lines)) (noListing 2)) (noListing 1)) card lines
-    (listEnd (filesShown card) lines (guard 1 b (guard 2 c (listPlan (filesShown card) (length lines)))))
-unfolding guard listEnd ended filesShown filesIn filesBy
-read-fills-by card lines true true e =
-    let t = as-table (geoOf (sec card)) card (shape-laid card (geoOf (sec card)) refl e) refl in
-    rw t at (in-fills (geoOf (sec card)) (asIs (geoOf (sec card))) card lines)
-read-fills-by card lines true false e = none-fills 2 card lines
-read-fills-by card lines false c e = none-fills 1 card lines
-
-pub read-fills : (card : List ℕ) (lines : List Line) → Fills (cardListing card (length lines)) card lines (readList card lines)
-unfolding readList readPlan
-read-fills card lines = rw (card-text card (length lines)) (read-fills-by card lines (shapeOk card) (sound card) refl)
-
 -- ---- "later lines stay", whatever is answered, and the table keeps its length
 
 abbrev pub Stay : List Line → Listed → Type 0
@@ -159,12 +131,9 @@ unfolding filledTo
 later-stay files zero m lines h = refl
 later-stay files (suc n) m lines h = drop-set-lt m (filledTo files n lines) n _ (omega arith) ∙ later-stay files n m lines (omega arith)
 
-fills-stay : (l : Listing) (img : List ℕ) (lines : List Line) (d : Listed) → Fills l img lines d → Stay lines d
+pub fills-stay : (l : Listing) (img : List ℕ) (lines : List Line) (d : Listed) → Fills l img lines d → Stay lines d
 fills-stay l img lines d (p, q) =
     (rw (← q, ← p) (later-stay (filesAt l img) (l .answer .count) (l .answer .count) lines (omega arith)), rw (← q) (length-filledTo (filesAt l img) (l .answer .count) lines))
 
 pub list-stay : (s : Session) (work : List ℕ) (lines : List Line) → Stay lines (list s work lines)
 list-stay s work lines = fills-stay _ _ _ _ (list-fills s work lines)
-
-pub read-list-stay : (card : List ℕ) (lines : List Line) → Stay lines (readList card lines)
-read-list-stay card lines = fills-stay _ _ _ _ (read-fills card lines)

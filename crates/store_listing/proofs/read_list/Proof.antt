@@ -43,25 +43,26 @@ use Rattle.card.specs.Reading.{readList}
 use Rattle.card.proofs.Line as T
 use Rattle.card.proofs.Answer as N
 use Rattle.card.proofs.Answer.Laws as N′
-use Rattle.lists.specs.declared.Listing.{Listing}
-use Rattle.lists.specs.Listings.{cardListing}
-use Rattle.lists.specs.Inner.{HasRoom}
-use Rattle.lists.proofs.ListingLaws.{read-ready, Fills, read-fills}
-use Rattle.lists.proofs.Filling.{Lasts, Filled, told, Fill, imgVal, tableVal, Img, to-fill, asks-fill}
-use Rattle.lists.proofs.Listing as Z
-use Rattle.lists.proofs.Listing.Laws as Z′
-use Rattle.lists.proofs.card_listing as judge
-use Rattle.lists.proofs.card_listing.Symbol as judge-def
-use Rattle.lists.proofs.card_listing.Symbol.{name as #lists·card-listing}
-use Rattle.lists.proofs.card_listing.Met as judge-thm
-use Rattle.lists.proofs.fill_lines as fill
-use Rattle.lists.proofs.fill_lines.Symbol as fill-def
-use Rattle.lists.proofs.fill_lines.Symbol.{name as #lists·fill-lines}
-use Rattle.lists.proofs.fill_lines.Met as fill-thm
-use Rattle.lists.proofs.read_list.Key.{name as #lists·read-list}
-use Rattle.lists.proofs.read_list as f
-use Rattle.lists.proofs.read_list.Statement as stated
-use Rattle.lists.proofs.read_list.Code as code
+use Rattle.store_listing.specs.declared.Listing.{Listing}
+use Rattle.store_listing.specs.Listings.{cardListing}
+use Rattle.store_listing.specs.Inner.{HasRoom}
+use Rattle.store_listing.proofs.ListingLaws.{Fills}
+use Rattle.store_listing.proofs.CardListing.{read-ready, read-fills}
+use Rattle.store_listing.proofs.Filling.{Lasts, Filled, told, Fill, imgVal, tableVal, Img, to-fill, asks-fill}
+use Rattle.store_listing.proofs.Listing as Z
+use Rattle.store_listing.proofs.Listing.Laws as Z′
+use Rattle.store_listing.proofs.card_listing as judge
+use Rattle.store_listing.proofs.card_listing.Symbol as judge-def
+use Rattle.store_listing.proofs.card_listing.Symbol.{name as #store-listing·card-listing}
+use Rattle.store_listing.proofs.card_listing.Met as judge-thm
+use Rattle.store_listing.proofs.fill_lines as fill
+use Rattle.store_listing.proofs.fill_lines.Symbol as fill-def
+use Rattle.store_listing.proofs.fill_lines.Symbol.{name as #store-listing·fill-lines}
+use Rattle.store_listing.proofs.fill_lines.Met as fill-thm
+use Rattle.store_listing.proofs.read_list.Key.{name as #store-listing·read-list}
+use Rattle.store_listing.proofs.read_list as f
+use Rattle.store_listing.proofs.read_list.Statement as stated
+use Rattle.store_listing.proofs.read_list.Code as code
 
 abbrev Arg : Type 0
 Arg = RefT (List ℕ) × (RefT (List Line) × Unit {0})
@@ -123,7 +124,7 @@ module _ {M : Type 1} (𝓤 : URA M) (H : Heap 𝓤) (A : Atoms 𝓤) (W : Given
       suffices ! _ (ends-at 𝓤 H A f.ended stayed (f.clauses 𝓤 H A at-mem run) W (((κ₀, (κ₁, tt)), (q₀, (q₁, tt)), tt, a, at), tt) w n (tt, (zs, tt)) (tt, (l, tt))) $ says ! e $ frame ! $
       nothing ! $ move ! (1 ∷ 0 ∷ []) $ fjoin ! $ move ! (1 ∷ 0 ∷ []) $ fjoin ! $ frame ! $ done !
 
-  module _ (𝓣 : Tables 𝓤 H) (known-judge : Triple 𝓤 (𝓣 .C #lists·card-listing) (Judge 𝓤 H A at-mem run)) (known-fill : Triple 𝓤 (𝓣 .C #lists·fill-lines) (Fill 𝓤 H A at-mem run)) where
+  module _ (𝓣 : Tables 𝓤 H) (known-judge : Triple 𝓤 (𝓣 .C #store-listing·card-listing) (Judge 𝓤 H A at-mem run)) (known-fill : Triple 𝓤 (𝓣 .C #store-listing·fill-lines) (Fill 𝓤 H A at-mem run)) where
     walk : ent 𝓤 (onEntry 𝓤 H A f.signature (κ₀, (κ₁, tt)) (q₀, (q₁, tt)) a at) (WpFn 𝓤 H (𝓣 .C) (𝓣 .Λ) code.function (sv ∷ lv ∷ []) Post)
     walk =
         qed W ((‵ (flft κ₀ q₀) ⊛ (‵ (flft κ₁ q₁) ⊛ ‵ ftrue)) ∷ ‵ (owns (ShrSlice (named 0) κ₀ u8 ∷ MutSlice (named 1) κ₁ T.the-row ∷ []) a at) ∷ []) ∵ enter ! (𝓣 .C) (𝓣 .Λ) code.function (sv ∷ lv ∷ []) _ $
@@ -159,7 +160,7 @@ module _ {M : Type 1} (𝓤 : URA M) (H : Heap 𝓤) (A : Atoms 𝓤) (W : Given
         move ! (18 ∷ 19 ∷ []) $ free1 ! $ move ! (16 ∷ 17 ∷ []) $ free1 ! $ move ! (14 ∷ 15 ∷ []) $ free1 ! $ move ! (12 ∷ 13 ∷ []) $ free1 ! $ move ! (10 ∷ 11 ∷ []) $ free1 ! $ move ! (8 ∷ 9 ∷ []) $ free1 ! $ move ! (6 ∷ 7 ∷ []) $ free1 ! $ free0 ! $
         keep ! (1 ∷ 2 ∷ 5 ∷ 0 ∷ []) $ by ! (exits n w (zs .1 .1 .0) (told (x .now) ys (readList (x .now) ys) r (fills-of r er) n (zs .1 .1 .0) e) l))))))))))))))))))
 
-module _ {M : Type 1} (𝓤 : URA M) (H : Heap 𝓤) (A : Atoms 𝓤) (W : Given 𝓤 H A) (at-mem : Memory → SProp 𝓤) (run : Routine → Fun 𝓤) (𝓣 : Tables 𝓤 H) (known-judge : Triple 𝓤 (𝓣 .C #lists·card-listing) (Judge 𝓤 H A at-mem run)) (known-fill : Triple 𝓤 (𝓣 .C #lists·fill-lines) (Fill 𝓤 H A at-mem run)) where
+module _ {M : Type 1} (𝓤 : URA M) (H : Heap 𝓤) (A : Atoms 𝓤) (W : Given 𝓤 H A) (at-mem : Memory → SProp 𝓤) (run : Routine → Fun 𝓤) (𝓣 : Tables 𝓤 H) (known-judge : Triple 𝓤 (𝓣 .C #store-listing·card-listing) (Judge 𝓤 H A at-mem run)) (known-fill : Triple 𝓤 (𝓣 .C #store-listing·fill-lines) (Fill 𝓤 H A at-mem run)) where
   list-walks : Walks 𝓤 H A f.ended stayed (WpFn 𝓤 H (𝓣 .C) (𝓣 .Λ) code.function) (f.clauses 𝓤 H A at-mem run)
   list-walks = walked 𝓤 H A f.ended stayed (f.clauses 𝓤 H A at-mem run) (WpFn 𝓤 H (𝓣 .C) (𝓣 .Λ) code.function)
       (λ κs. (slice-vals, (slice-vals, tt))) (λ κs. (shr-slice-tells (named 0) (κs .0) u8, (mut-slice-tells (named 1) (κs .1 .0) T.the-row, tt)))
@@ -175,7 +176,7 @@ pub read-list-spec : {M : Type 1} → stated.statement M
 unfolding code.routine tablesOf
 read-list-spec 𝓤 H 𝓜 𝓖 𝓡 =
     entered 𝓤 H (tripleOf 𝓤 H (𝓖 .A) f.signature (f.spec 𝓤 H (𝓖 .A) (𝓜 .mem) (𝓡 .run)))
-    (tables 𝓤 H 𝓜 𝓡 code.env .C) (tables 𝓤 H 𝓜 𝓡 code.env .Λ) #lists·read-list code.function (code.unfolded 𝓤 H 𝓜 𝓡)
+    (tables 𝓤 H 𝓜 𝓡 code.env .C) (tables 𝓤 H 𝓜 𝓡 code.env .Λ) #store-listing·read-list code.function (code.unfolded 𝓤 H 𝓜 𝓡)
     (list-meets 𝓤 H (𝓖 .A) (givenOf 𝓤 H 𝓜 𝓖) (𝓜 .mem) (𝓡 .run) (tablesOf 𝓤 H 𝓜 (tables 𝓤 H 𝓜 𝓡 code.env))
-    (cited 𝓤 H (Judge 𝓤 H (𝓖 .A) (𝓜 .mem) (𝓡 .run)) 𝓜 𝓡 code.env #lists·card-listing judge-def.routine code.calls-lists·card-listing (judge-thm.met 𝓤 H 𝓜 𝓖 𝓡))
-    (cited 𝓤 H (Fill 𝓤 H (𝓖 .A) (𝓜 .mem) (𝓡 .run)) 𝓜 𝓡 code.env #lists·fill-lines fill-def.routine code.calls-lists·fill-lines (fill-thm.met 𝓤 H 𝓜 𝓖 𝓡)))
+    (cited 𝓤 H (Judge 𝓤 H (𝓖 .A) (𝓜 .mem) (𝓡 .run)) 𝓜 𝓡 code.env #store-listing·card-listing judge-def.routine code.calls-store-listing·card-listing (judge-thm.met 𝓤 H 𝓜 𝓖 𝓡))
+    (cited 𝓤 H (Fill 𝓤 H (𝓖 .A) (𝓜 .mem) (𝓡 .run)) 𝓜 𝓡 code.env #store-listing·fill-lines fill-def.routine code.calls-store-listing·fill-lines (fill-thm.met 𝓤 H 𝓜 𝓖 𝓡)))

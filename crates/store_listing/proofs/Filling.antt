@@ -27,12 +27,12 @@ use Rattle.card.specs.declared.Answer.{Answer}
 use Rattle.card.specs.declared.Line.{Line}
 use Rattle.card.specs.Plan.{Listed}
 use Rattle.card.proofs.Line as T
-use Rattle.lists.specs.declared.Listing.{Listing}
-use Rattle.lists.specs.Listings.{filesAt, filledTo}
-use Rattle.lists.specs.Inner.{HasRoom}
-use Rattle.lists.proofs.ListingLaws.{Fills}
-use Rattle.lists.proofs.Listing as Z
-use Rattle.lists.proofs.fill_lines as fill
+use Rattle.store_listing.specs.declared.Listing.{Listing}
+use Rattle.store_listing.specs.Listings.{filesAt, filledTo}
+use Rattle.store_listing.specs.Inner.{HasRoom}
+use Rattle.store_listing.proofs.ListingLaws.{Fills}
+use Rattle.store_listing.proofs.Listing as Z
+use Rattle.store_listing.proofs.fill_lines as fill
 
 -- the machine values of the image and of the table, and what the image owns
 abbrev pub imgVal : RefT (List ℕ) → Val

@@ -1,8 +1,8 @@
 -- From what its call says. Assumes nothing.
 use borrow.Author.Needs.{needs}
-use Rattle.lists.specs.Listings.{noListing}
-use Rattle.lists.proofs.no_listing.Statement.{statement}
-use Rattle.lists.proofs.no_listing.Tie as tie
+use Rattle.store_listing.specs.Listings.{noListing}
+use Rattle.store_listing.proofs.no_listing.Statement.{statement}
+use Rattle.store_listing.proofs.no_listing.Tie as tie
 
 refusal-requires : tie.Need-refusal-requires
 refusal-requires c κs = search needs
