@@ -13,7 +13,7 @@ use Rattle.apages_index.proofs.groups_ok.Statement.{statement}
 use Rattle.apages_index.proofs.groups_ok.Tie as tie
 
 abbrev Inv-loop : tie.InvT-loop
-Inv-loop card g v bound ix pairs p₀ p = (p ≤ gP g) × (everyGroup (groupOk g bound (tableIn g v (sec card))) ix 0 (gP g) ≡ everyGroup (groupOk g bound (tableIn g v (sec card))) ix p (gP g - p))
+Inv-loop card g v bound ix pairs p₀ p = (p ≤ gP g) × (everyGroup (groupOk g (bound .0) (tableIn g v (sec card))) ix 0 (gP g) ≡ everyGroup (groupOk g (bound .0) (tableIn g v (sec card))) ix p (gP g - p))
 
 abbrev μ-loop : tie.MeasureT-loop
 μ-loop card g v bound ix pairs p₀ p = gP g - p

@@ -17,7 +17,7 @@ use Rattle.directory_rules.proofs.entries_ok.Statement.{statement}
 use Rattle.directory_rules.proofs.entries_ok.Tie as tie
 
 abbrev Inv-loop : tie.InvT-loop
-Inv-loop card g v bound n j₀ j = (j ≤ n) × (every (entryOk g bound (tableIn g v (sec card))) (entriesOf g (sec card)) ≡ every (entryOk g bound (tableIn g v (sec card))) (drop j (entriesOf g (sec card))))
+Inv-loop card g v bound n j₀ j = (j ≤ n) × (every (entryOk g (bound .0) (tableIn g v (sec card))) (entriesOf g (sec card)) ≡ every (entryOk g (bound .0) (tableIn g v (sec card))) (drop j (entriesOf g (sec card))))
 
 abbrev μ-loop : tie.MeasureT-loop
 μ-loop card g v bound n j₀ j = n - j
