@@ -35,8 +35,8 @@ pub fn put_at_fitting(
     if s.worn {
         return refusal(9);
     }
-    let good = entries_names::good_name(name);
-    if !good {
+    let good_name = entries_names::good_name(name);
+    if !good_name {
         return refusal(5);
     }
     if s.geo.s <= goal.0 {
