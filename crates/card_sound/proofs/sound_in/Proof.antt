@@ -35,7 +35,7 @@ crash-counts-requires : tie.Need-crash-counts-requires
 crash-counts-requires c κs = search needs
 
 returns : tie.Need-returns
-returns c = sound-here _ _ (c .before .before .before .before .before .before .before .before .before .before .before .before .pre) (c .before .before .before .before .before .before .before .as-is .ensures) (c .crash-counts .ensures) (c .before .before .before .before .before .before .before .before .before .before .word-at .ensures) (c .before .before .before .before .before .before .before .before .zeros .ensures) (c .before .before .before .before .before .before .table-ok .ensures) (c .before .before .before .before .view-ok .ensures) (c .before .before .names-ok .ensures)
+returns c = sound-here _ _ (c .before .before .before .before .before .before .before .before .before .before .before .before .pre) (c .before .before .before .before .before .before .before .as-is .ensures) (c .before .crash-counts .ensures) (c .before .before .before .before .before .before .before .before .before .before .word-at .ensures) (c .before .before .before .before .before .before .before .before .zeros .ensures) (c .before .before .before .before .before .before .table-ok .ensures) (c .before .before .before .before .view-ok .ensures) (c .before .before .names-ok .ensures)
 
 pub sound-in-spec : {M : Type 1} → statement M
 sound-in-spec =

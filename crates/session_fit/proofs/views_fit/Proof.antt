@@ -25,7 +25,7 @@ names-ok-requires c κs = search needs
 returns : tie.Need-returns
 returns c =
     let z = c .before .before .before .before .before .before .before .before .before .before .before in
-    views-here (z .args .s) _ (z .pre) (c .before .before .before .before .before .before .before .before .present-view .ensures) (c .before .before .before .before .before .before .before .as-is .ensures) (c .before .before .before .before .before .before .crash-counts .ensures) (c .before .before .before .before .before .view-ok .ensures) (c .before .before .view-ok2 .ensures) (c .names-ok .ensures)
+    views-here (z .args .s) _ (z .pre) (c .before .before .before .before .before .before .before .before .present-view .ensures) (c .before .before .before .before .before .before .before .as-is .ensures) (c .before .before .before .before .before .before .crash-counts .ensures) (c .before .before .before .before .view-ok .ensures) (c .before .before .view-ok2 .ensures) (c .names-ok .ensures)
 
 pub views-fit-spec : {M : Type 1} → statement M
 views-fit-spec =
