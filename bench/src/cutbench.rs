@@ -44,7 +44,7 @@ mod summary;
 mod track;
 mod world;
 
-pub use module::twin_fault;
+pub use module::{twin_fault, twin_fault_of, Start, Twin};
 pub use op::{Cuttable, Op, Which};
 pub use parse::{history, text};
 pub use replay::replay;

@@ -3,12 +3,16 @@
 
 #[path = "common/paged.rs"]
 mod paged;
+#[path = "common/twins.rs"]
+mod twins;
 #[path = "common/wrong.rs"]
 mod wrong;
 
-use bench::cutbench::parts::{run, Failure, Limit, Pair, Plan, PARTS};
-use bench::cutbench::{fault, history, text, Op};
+use bench::cutbench::parts::{run, run_twin, Failure, Limit, Pair, Plan, PARTS};
+use bench::cutbench::{fault, history, shrink, text, twin_fault, twin_fault_of, Op};
+use bench::fitting::Module;
 use bench::store::{Plain, Proved};
+use twins::{Fault, WrongModule};
 use wrong::Wrong;
 
 fn first_failure(parts: &[&str], pair: Pair, histories: u64) -> Option<Failure> {
@@ -200,6 +204,44 @@ fn what_is_wrong_with_pages_is_found() {
     for wrong in [Wrong::CrossesPages, Wrong::OneGroup] {
         let small = found_by(&["pages"], Pair(&wrong, &wrong));
         assert!(small.what.contains("refused"), "{}", small.what);
+    }
+}
+
+/// Modules without the fit test that are wrong otherwise, beside the tested
+/// calls; the proved module is alike in the same short history.
+#[test]
+fn wrong_modules_are_found_by_the_part_module() {
+    for (wrong, what) in [
+        (Fault::AnyName, "the module's numbers differ: 5"),
+        (Fault::ListsLess, "the module's counts differ"),
+        (Fault::UsesOldSession, "the module's sessions differ"),
+    ] {
+        let start = move |module: Module| -> Box<dyn bench::cutbench::Twin> {
+            Box::new(WrongModule(wrong, module))
+        };
+        let plan = Plan {
+            seed: 1,
+            random: Limit::Histories(0),
+            hostile: Limit::Histories(0),
+            module: Limit::Histories(300),
+            most: 0,
+        };
+        let failure = run_twin(&start, &plan).1.into_iter().next();
+        let failure = failure.expect("the fault is found");
+        assert!(
+            failure.what.starts_with(what),
+            "{wrong:?}: {}",
+            failure.what
+        );
+        let fails = |list: &[Op]| {
+            let (_, wrong) = twin_fault_of(&start, list);
+            wrong.filter(|(_, w)| w.starts_with(what)).map(|(at, _)| at)
+        };
+        let small = shrink(failure.history, fails);
+        println!("{wrong:?}\n{}", text(&small));
+        assert!(small.len() <= 6, "{}", text(&small));
+        assert_eq!(fails(&small), Some(small.len() - 1));
+        assert_eq!(twin_fault(&small).1, None);
     }
 }
 

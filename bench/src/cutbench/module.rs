@@ -7,23 +7,57 @@ use super::summary::Tally;
 use super::world::Outcome;
 use crate::dice::Dice;
 use crate::fitting::Module;
-use crate::host::{self, Goal, SessionBytes};
+use crate::host::{self, Answer, Goal, SessionBytes};
 use crate::plain::steps::{self, Step};
 use crate::plain::{self, Line, Session, MOST_SECTORS, SECTOR};
 
+/// A module beside the tested calls. One that is wrong on purpose makes some of
+/// these calls otherwise; all else is the proved module's.
+pub trait Twin {
+    /// The proved module that it has.
+    fn module(&mut self) -> &mut Module;
+
+    fn put(&mut self, name: &[u8], content: &[u8]) -> u32 {
+        Module::put(self.module(), name, content)
+    }
+
+    fn list(&mut self, lines: &mut [Line]) -> Answer {
+        Module::list(self.module(), lines)
+    }
+
+    fn cut(&mut self, card: Vec<u8>) {
+        Module::cut(self.module(), card);
+    }
+}
+
+impl Twin for Module {
+    fn module(&mut self) -> &mut Module {
+        self
+    }
+}
+
+/// A twin of a proved module.
+pub type Start<'a> = dyn Fn(Module) -> Box<dyn Twin> + Sync + 'a;
+
 /// The tested calls with their images and session, and the module.
-struct Twins {
+struct Twins<'a> {
     card: Vec<u8>,
     work: Vec<u8>,
     session: SessionBytes,
-    module: Module,
+    start: &'a Start<'a>,
+    module: Box<dyn Twin>,
     tally: Tally,
 }
 
 /// Runs a history through both: what was counted, and the first line with a
 /// disagreement, counted from 0, with what is wrong.
 pub fn twin_fault(history: &[Op]) -> (Tally, Option<(usize, String)>) {
-    let mut twins = Twins::new(0);
+    twin_fault_of(&|module| Box::new(module), history)
+}
+
+/// The same with another module.
+pub fn twin_fault_of(start: &Start, history: &[Op]) -> (Tally, Option<(usize, String)>) {
+    let mut twins = Twins::new(start, 0);
     twins.tally.histories = 1;
     for (i, op) in history.iter().enumerate() {
         let outcome = twins.run(op).and_then(|()| twins.alike());
@@ -34,15 +68,16 @@ pub fn twin_fault(history: &[Op]) -> (Tally, Option<(usize, String)>) {
     (twins.tally, None)
 }
 
-impl Twins {
+impl<'a> Twins<'a> {
     /// Two images of so many bytes of rubbish, and the closed session.
-    fn new(length: usize) -> Twins {
+    fn new(start: &'a Start<'a>, length: usize) -> Twins<'a> {
         let image = vec![0xEE; length];
         Twins {
             card: image.clone(),
             work: image.clone(),
             session: Session::Closed.encode(),
-            module: Module::new(image.clone(), image),
+            start,
+            module: start(Module::new(image.clone(), image)),
             tally: Tally::default(),
         }
     }
@@ -53,14 +88,14 @@ impl Twins {
         match op {
             Op::Fresh(s, t, d) => {
                 let tally = self.tally;
-                *self = Twins::new(SECTOR * (*s).min(MOST_SECTORS + 1) as usize);
+                *self = Twins::new(self.start, SECTOR * (*s).min(MOST_SECTORS + 1) as usize);
                 self.tally = tally;
                 self.make(*s, *t, *d)
             }
             Op::Make(s, t, d) => self.make(*s, *t, *d),
             Op::Mount => {
                 let number = host::mount(&mut self.card, &mut self.work, &mut self.session);
-                let other = self.module.mount();
+                let other = self.module.module().mount();
                 self.same(number, other)
             }
             Op::Put { name, bytes, seed } => {
@@ -79,25 +114,25 @@ impl Twins {
                 let content = Dice::new(*seed).bytes(*bytes);
                 let goal = Goal(*goal);
                 let number = host::put_at(&self.session, &mut self.work, name, &content, goal);
-                let other = self.module.put_at(name, &content, goal);
+                let other = self.module.module().put_at(name, &content, goal);
                 self.same(number, other)?;
                 self.get(name)
             }
             Op::Remove(name) => {
                 let number = host::remove(&self.session, &mut self.work, name);
-                let other = self.module.remove(name);
+                let other = self.module.module().remove(name);
                 self.same(number, other)?;
                 self.get(name)
             }
             Op::Land(sector) => {
                 let number = host::land(&self.session, &mut self.card, &self.work, *sector);
-                let other = self.module.land(*sector);
+                let other = self.module.module().land(*sector);
                 self.same(number, other)
             }
             Op::Sync => self.sync(),
             Op::Unmount => {
                 let tested = host::unmount(&mut self.session, &mut self.card, &mut self.work);
-                let other = self.module.unmount();
+                let other = self.module.module().unmount();
                 self.same(tested.number, other.number)?;
                 alike("counts", &tested.count, &other.count)
             }
@@ -126,7 +161,7 @@ impl Twins {
         if number == plain::DONE {
             self.session = Session::Closed.encode();
         }
-        let other = self.module.make(s, t, d);
+        let other = self.module.module().make(s, t, d);
         self.same(number, other)
     }
 
@@ -135,12 +170,12 @@ impl Twins {
         let (card, work) = (&mut self.card, &mut self.work);
         if card.first().is_some_and(|byte| byte % 2 == 0) {
             let tested = host::sync_count(&mut self.session, card, work);
-            let other = self.module.sync_count();
+            let other = self.module.module().sync_count();
             self.same(tested.number, other.number)?;
             return alike("counts", &tested.count, &other.count);
         }
         let number = host::sync(&mut self.session, card, work);
-        let other = self.module.sync();
+        let other = self.module.module().sync();
         self.same(number, other)
     }
 
@@ -149,7 +184,7 @@ impl Twins {
         for length in [1, 12_000] {
             let [mut one, mut other] = [vec![0xEE; length], vec![0xEE; length]];
             let tested = host::get(&self.session, &self.work, name, &mut one);
-            let answer = self.module.get(name, &mut other);
+            let answer = self.module.module().get(name, &mut other);
             self.same(tested.number, answer.number)?;
             alike("counts", &tested.count, &answer.count)?;
             alike("contents", &one, &other)?;
@@ -219,13 +254,15 @@ impl Twins {
 
     /// Session, both images, both figures and the list.
     fn alike(&mut self) -> Outcome {
-        alike("sessions", &&self.session, &self.module.session())?;
+        let module = self.module.module();
+        alike("sessions", &&self.session, &module.session())?;
         let [mut one, mut other] = [[0xEE; 8]; 2];
         let number = host::free(&self.session, &self.work, &mut one);
-        let answer = self.module.free(&mut other);
+        let answer = self.module.module().free(&mut other);
         self.same(number, answer)?;
         alike("figures", &one, &other)?;
-        if self.card != self.module.card() || self.work != self.module.work() {
+        let module = self.module.module();
+        if self.card != module.card() || self.work != module.work() {
             return Err("the module's images differ".into());
         }
         self.list()

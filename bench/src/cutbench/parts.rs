@@ -1,6 +1,6 @@
 //! The parts of a run, each a row of histories shared out to the cores.
 
-use super::module::twin_fault;
+use super::module::{twin_fault, twin_fault_of, Start};
 use super::op::Op;
 use super::shrink::{fault, shrink};
 use super::summary::{Row, Tally};
@@ -106,7 +106,7 @@ pub fn run(
             Some(hostile::random(&mut dice(2, i), &cards))
         }),
         (PARTS[5], &twin_fault, plan.module, &|i| {
-            Some(histories::random(&mut dice(3, i), 66))
+            Some(twin_history(plan, i))
         }),
     ];
     let mut rows = Vec::new();
@@ -123,6 +123,18 @@ pub fn run(
         }
     }
     (rows, failures)
+}
+
+/// Runs the part "module" with another module beside the tested calls.
+pub fn run_twin(start: &Start, plan: &Plan) -> (Row, Vec<Failure>) {
+    let runner = |history: &[Op]| twin_fault_of(start, history);
+    let source = |i| Some(twin_history(plan, i));
+    run_part(PARTS[5], &runner, plan.module, &source, &|_| ())
+}
+
+/// The history of a number in that part.
+fn twin_history(plan: &Plan, i: u64) -> Vec<Op> {
+    histories::random(&mut Dice::new(Dice::seed_of(plan.seed, 3, i)), 66)
 }
 
 /// The history of a number, if there is one.
