@@ -29,7 +29,7 @@ fn swapped(st: Standing, new: Sector, old: Sector) -> Sector
 }
 
 // A group under the session's own stamp.
-pub fn changed_index(st: Standing, own: Stamp, x: Index) -> Index
+fn changed_index(st: Standing, own: Stamp, x: Index) -> Index
     ensures { λ r. ⌜ r ≡ changedIndex st own x ⌝ }
 {
     let a = swapped(st, x.b, x.a);
@@ -87,7 +87,7 @@ fn change_pair(img: &mut [u8], g: Geo, st: Standing, y: Index, a: Sector, n: u32
 }
 
 // "Changing the bitmap, only where a bit changes": n sectors from a on, all of one page, are made bit.
-pub fn change_run(img: &mut [u8], g: Geo, v: View, own: Stamp, a: Sector, n: u32, bit: u8)
+fn change_run(img: &mut [u8], g: Geo, v: View, own: Stamp, a: Sector, n: u32, bit: u8)
     requires { ⌜ LaidOut g (now img) × (PairIn g (now img) × (((a .0 % 4096 + n ≤ 4096) × (0 < n → a .0 < 4096 * gP g)) × (bit < 2))) ⌝ }
     ensures { λ _. ⌜ now (img .exit) ≡ changeRun g (tableIn g v (sec (now (img .entry)))) own (a .0) n bit (now (img .entry)) ⌝ }
 {

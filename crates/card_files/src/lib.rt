@@ -60,7 +60,7 @@ pub fn run_at(card: &[u8], g: Geo, v: View, j: usize) -> Run
 }
 
 // Fills the first bytes of the output with the content of a run.
-pub fn copy_content(img: &[u8], r: Run, out: &mut [u8])
+fn copy_content(img: &[u8], r: Run, out: &mut [u8])
     requires { ⌜ ((512 * r .start .0 + r .bytes ≤ length (now img)) × (r .bytes ≤ 512 * r .sectors)) × (r .bytes ≤ length (now out)) ⌝ }
     ensures { λ _. ⌜ now (out .exit) ≡ splice (now (out .entry)) 0 (contentOf (now (img .entry)) r) ⌝ }
 {

@@ -128,7 +128,7 @@ fn put_index(g: Geo, card: &mut [u8])
 }
 
 // Makes a fresh card of an image as long as its geometry says, with one sector's buffer at a time.
-pub fn make_in(g: Geo, card: &mut [u8])
+fn make_in(g: Geo, card: &mut [u8])
     requires { ⌜ LaidOut g (now card) × (length (now card) ≡ 512 * g .s) ⌝ }
     ensures { λ _. ⌜ now (card .exit) ≡ freshCard g ⌝ }
 {

@@ -1,7 +1,6 @@
 // When a card is sound: its shape, its table and its views.
 ghost use mathlib.Core.Path.{_≡_};
 ghost use mathlib.Core.Bool.{true};
-ghost use Prim.Native.Nat.{_+_};
 ghost use Rattle.sectors.specs.Sectors.{sec};
 ghost use Rattle.counts.specs.Stamps.{tableIn};
 ghost use Rattle.counts.specs.Inner.{LaidOut};
@@ -29,7 +28,7 @@ pub fn view_ok(card: &[u8], g: Geo, v: View, bound: CrashCount, scratch: &mut [u
 }
 
 // Whether an image is sound by a geometry.
-pub fn sound_in(card: &[u8], g: Geo) -> bool
+fn sound_in(card: &[u8], g: Geo) -> bool
     requires { ⌜ LaidOut g (now card) ⌝ }
     ensures { λ r. ⌜ r ≡ soundIn g (sec (now (card .entry))) ⌝ }
 {

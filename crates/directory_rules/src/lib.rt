@@ -58,7 +58,7 @@ pub fn is_gone(card: &[u8], g: Geo, v: View, w: View, p: &[u8]) -> bool
 }
 
 // Whether two entries do not both show a file, in either view, under one name.
-pub fn apart(card: &[u8], g: Geo, v: View, w: View, p: &[u8], q: &[u8]) -> bool
+fn apart(card: &[u8], g: Geo, v: View, w: View, p: &[u8], q: &[u8]) -> bool
     requires { ⌜ LaidOut g (now card) × (length (now p) ≡ 128) × (length (now q) ≡ 128) ⌝ }
     ensures { λ r. ⌜ r ≡ apart (tableIn g v (sec (now (card .entry)))) (tableIn g w (sec (now (card .entry)))) (now (p .entry)) (now (q .entry)) ⌝ }
 {

@@ -1,6 +1,6 @@
 // Names: when one is good, and when an entry has it.
 ghost use mathlib.Core.Path.{_≡_};
-ghost use Prim.Native.Nat.{_+_, _*_, _%_, _<_, min};
+ghost use Prim.Native.Nat.{_+_, _*_, _%_, min};
 ghost use lib.ListN.{length};
 ghost use Rattle.words.specs.Lists.{every, eqList};
 ghost use Rattle.words.specs.Bytes.{wordAt};
@@ -10,7 +10,7 @@ ghost use Rattle.entries_names.specs.Inner.{lastOf, hashStep, hashOf};
 // ---- names
 
 // Whether every byte may stand in a name. It does not stop early, as `words::zeros`.
-pub fn good_bytes(s: &[u8]) -> bool
+fn good_bytes(s: &[u8]) -> bool
     ensures { λ r. ⌜ r ≡ every goodByte (now (s .entry)) ⌝ }
 {
     let mut ok = true;
@@ -121,7 +121,7 @@ fn hash_step(h: u32, b: u8) -> u32
 }
 
 // "The hash is 32-bit FNV-1a", over the bytes of a name.
-pub fn hash(n: &[u8]) -> u32
+fn hash(n: &[u8]) -> u32
     ensures { λ r. ⌜ r ≡ hashOf (now (n .entry)) ⌝ }
 {
     let mut h: u32 = 2166136261;

@@ -1,7 +1,6 @@
 // When names, versions and entries keep their rules.
 ghost use mathlib.Core.Path.{_≡_};
 ghost use mathlib.Core.Bool.{_&&_, _||_};
-ghost use Prim.Native.Nat.{_+_};
 ghost use lib.ListN.{length};
 ghost use Rattle.words.specs.Bytes.{wordAt};
 ghost use Rattle.sectors.specs.Sectors.{sec};
@@ -17,14 +16,14 @@ use sectors::Sector;
 // ---- well formed
 
 // How many sectors some bytes take.
-pub fn sectors_for(bytes: u32) -> u32
+fn sectors_for(bytes: u32) -> u32
     ensures { λ r. ⌜ r ≡ sectorsFor bytes ⌝ }
 {
     ((bytes as u64 + 511) / 512) as u32
 }
 
 // Whether a run is as long as its bytes want, and lies inside the data and one page.
-pub fn run_ok(g: Geo, r: Run) -> bool
+fn run_ok(g: Geo, r: Run) -> bool
     requires { ⌜ InLimits g ⌝ }
     ensures { λ ok. ⌜ ok ≡ runOk g r ⌝ }
 {
@@ -39,7 +38,7 @@ pub fn run_ok(g: Geo, r: Run) -> bool
 }
 
 // Whether the 16 bytes of a version are well formed.
-pub fn version_ok(g: Geo, v: &[u8]) -> bool
+fn version_ok(g: Geo, v: &[u8]) -> bool
     requires { ⌜ InLimits g × (length (now v) ≡ 16) ⌝ }
     ensures { λ r. ⌜ r ≡ versionOk g (now (v .entry)) ⌝ }
 {

@@ -1,6 +1,5 @@
 // The fit test: whether a session fits a working image.
 ghost use mathlib.Core.Path.{_≡_};
-ghost use Rattle.words.specs.Lists.{every};
 ghost use Rattle.sectors.specs.Sectors.{sec};
 ghost use Rattle.counts.specs.Inner.{LaidOut};
 ghost use Rattle.session.specs.Fits.{tableFits, viewsFit, stampsFit, fits};
