@@ -64,7 +64,7 @@ extern "C" {
 /* The version of this header: the first number grows when what is declared here
  * changes, the second when something is added. Both are 0 to 99. */
 #define STORE_VERSION_MAJOR 1
-#define STORE_VERSION_MINOR 0
+#define STORE_VERSION_MINOR 1
 #define STORE_VERSION (100 * STORE_VERSION_MAJOR + STORE_VERSION_MINOR)
 
 enum {

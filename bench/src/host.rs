@@ -19,7 +19,7 @@ use crate::plain::{Line, REPORT_BYTES, ROOM_BYTES, SESSION_BYTES};
 use std::mem::{align_of, offset_of, size_of};
 
 /// The version of the header that declares the same functions.
-pub const VERSION: (u32, u32) = (1, 0);
+pub const VERSION: (u32, u32) = (1, 1);
 
 /// A session as it crosses to the host functions.
 pub type SessionBytes = [u8; SESSION_BYTES];
