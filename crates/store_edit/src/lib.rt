@@ -13,6 +13,7 @@ use session::Session;
 use session_unfit::unfit;
 use store_change::put_in;
 use store_change::remove_in;
+use store_find::Start;
 use store_find::put_place;
 use store_find::run_in;
 use store_find::sectors_of;
@@ -46,11 +47,10 @@ pub fn put_at_fitting(
         return refusal(7);
     };
     let k = sectors_of(content);
-    let Found::At(a) = run_in(s, work, k, goal) else {
+    let Start::From(a) = run_in(s, work, k, goal) else {
         return refusal(8);
     };
-    let start = a as u32;
-    put_in(s, work, name, content, j, Sector(start));
+    put_in(s, work, name, content, j, a);
     success(0)
 }
 

@@ -14,6 +14,7 @@ ghost use Rattle.apages.specs.Index.{pageAt, pageIn};
 ghost use Rattle.apages.specs.Inner.{PairIn, runFrom, runWithin, further};
 ghost use Rattle.session.specs.Fits.{fits};
 ghost use Rattle.store.specs.Edit.{placeIn, runIn};
+ghost use Rattle.store_find.specs.Inner.{foundOf};
 use card_files::page_at;
 use counts::Geo;
 use counts::View;
@@ -21,6 +22,12 @@ use sectors::Sector;
 use session::Opened;
 use session::present_view;
 use words::Found;
+
+// Where a search for a run finds one: from its first sector on, or no run.
+pub enum Start {
+    From(Sector),
+    NoRun,
+}
 
 // The entry that put uses: one with the name in either view, otherwise the lowest absent in both.
 pub fn put_place(s: Opened, work: &[u8], name: &[u8]) -> Found
@@ -50,44 +57,44 @@ fn run_between(work: &[u8], p: Sector, q: Sector, k: usize, from: usize, to: usi
 }
 
 // The lowest run in page p, from its place `from` on and below its place `to`, that is free in two views: its first sector, as one of the card.
-fn run_on(work: &[u8], g: Geo, v: View, w: View, p: u32, k: usize, from: usize, to: usize) -> Found
+fn run_on(work: &[u8], g: Geo, v: View, w: View, p: u32, k: usize, from: usize, to: usize) -> Start
     requires { ⌜ LaidOut g (now work) × (PairIn g (now work) × ((p < gP g) × ((0 < k) × (to ≤ 4096)))) ⌝ }
-    ensures { λ r. ⌜ r ≡ further (4096 * p) (runWithin k from to (pageAt g (tableIn g v (sec (now (work .entry)))) (sec (now (work .entry))) p) (pageAt g (tableIn g w (sec (now (work .entry)))) (sec (now (work .entry))) p)) ⌝ }
+    ensures { λ r. ⌜ foundOf r ≡ further (4096 * p) (runWithin k from to (pageAt g (tableIn g v (sec (now (work .entry)))) (sec (now (work .entry))) p) (pageAt g (tableIn g w (sec (now (work .entry)))) (sec (now (work .entry))) p)) ⌝ }
 {
     let a = page_at(work, g, v, p);
     let b = page_at(work, g, w, p);
     let here = run_between(work, a, b, k, from, to);
     match here {
-        Found::At(n) => Found::At(4096 * (p as usize) + n),
-        Found::Nowhere => Found::Nowhere,
+        Found::At(n) => Start::From(Sector(4096 * p + (n as u32))),
+        Found::Nowhere => Start::NoRun,
     }
 }
 
 // The lowest run in the pages from `first` on and below `end` that is free in two views: that of the first page that has one.
-fn lowest_in(work: &[u8], g: Geo, v: View, w: View, k: usize, first: u32, end: u32) -> Found
+fn lowest_in(work: &[u8], g: Geo, v: View, w: View, k: usize, first: u32, end: u32) -> Start
     requires { ⌜ LaidOut g (now work) × (PairIn g (now work) × ((end ≤ gP g) × (0 < k))) ⌝ }
-    ensures { λ r. ⌜ r ≡ runFrom g (tableIn g v (sec (now (work .entry)))) (tableIn g w (sec (now (work .entry)))) (sec (now (work .entry))) k first (end - first) ⌝ }
+    ensures { λ r. ⌜ foundOf r ≡ runFrom g (tableIn g v (sec (now (work .entry)))) (tableIn g w (sec (now (work .entry)))) (sec (now (work .entry))) k first (end - first) ⌝ }
 {
     let mut p = first;
     while p < end {
         let here = run_on(work, g, v, w, p, k, 0, 4096);
-        if let Found::At(a) = here {
-            return Found::At(a);
+        if let Start::From(a) = here {
+            return Start::From(a);
         }
         p += 1;
     }
-    Found::Nowhere
+    Start::NoRun
 }
 
 // "the first fitting run at or after it": the goal's page from the goal on, then the later pages.
-fn after_in(work: &[u8], g: Geo, v: View, w: View, k: usize, goal: Sector) -> Found
+fn after_in(work: &[u8], g: Geo, v: View, w: View, k: usize, goal: Sector) -> Start
     requires { ⌜ LaidOut g (now work) × (PairIn g (now work) × ((goal .0 < g .s) × (0 < k))) ⌝ }
-    ensures { λ r. ⌜ r ≡ runAfter k (goal .0) (pageIn g (tableIn g v (sec (now (work .entry)))) (sec (now (work .entry)))) (pageIn g (tableIn g w (sec (now (work .entry)))) (sec (now (work .entry)))) ⌝ }
+    ensures { λ r. ⌜ foundOf r ≡ runAfter k (goal .0) (pageIn g (tableIn g v (sec (now (work .entry)))) (sec (now (work .entry)))) (pageIn g (tableIn g w (sec (now (work .entry)))) (sec (now (work .entry)))) ⌝ }
 {
     let p = goal.0 / 4096;
     let here = run_on(work, g, v, w, p, k, (goal.0 % 4096) as usize, 4096);
-    if let Found::At(a) = here {
-        return Found::At(a);
+    if let Start::From(a) = here {
+        return Start::From(a);
     }
     let pairs = counts::pairs(g);
     lowest_in(work, g, v, w, k, p + 1, pairs)
@@ -102,38 +109,38 @@ fn reach(from: usize, k: usize) -> usize
 }
 
 // "else the lowest", where none starts at or after the goal: the pages before the goal's, then of its own no more than a run from below the goal can reach.
-fn below_in(work: &[u8], g: Geo, v: View, w: View, k: usize, goal: Sector) -> Found
+fn below_in(work: &[u8], g: Geo, v: View, w: View, k: usize, goal: Sector) -> Start
     requires { ⌜ LaidOut g (now work) × (PairIn g (now work) × ((goal .0 < g .s) × ((0 < k) × (runAfter k (goal .0) (pageIn g (tableIn g v (sec (now work))) (sec (now work))) (pageIn g (tableIn g w (sec (now work))) (sec (now work))) ≡ Nowhere)))) ⌝ }
-    ensures { λ r. ⌜ r ≡ lowestRun k (pageIn g (tableIn g v (sec (now (work .entry)))) (sec (now (work .entry)))) (pageIn g (tableIn g w (sec (now (work .entry)))) (sec (now (work .entry)))) ⌝ }
+    ensures { λ r. ⌜ foundOf r ≡ lowestRun k (pageIn g (tableIn g v (sec (now (work .entry)))) (sec (now (work .entry)))) (pageIn g (tableIn g w (sec (now (work .entry)))) (sec (now (work .entry)))) ⌝ }
 {
     let p = goal.0 / 4096;
     let lower = lowest_in(work, g, v, w, k, 0, p);
-    if let Found::At(a) = lower {
-        return Found::At(a);
+    if let Start::From(a) = lower {
+        return Start::From(a);
     }
     let end = reach((goal.0 % 4096) as usize, k);
     run_on(work, g, v, w, p, k, 0, end)
 }
 
 // "the first fitting run at or after it, else the lowest": no more than one pass over all pages and k - 1 sectors.
-fn goal_in(work: &[u8], g: Geo, v: View, w: View, k: usize, goal: Sector) -> Found
+fn goal_in(work: &[u8], g: Geo, v: View, w: View, k: usize, goal: Sector) -> Start
     requires { ⌜ LaidOut g (now work) × (PairIn g (now work) × ((goal .0 < g .s) × (0 < k))) ⌝ }
-    ensures { λ r. ⌜ r ≡ goalRun k (goal .0) (pageIn g (tableIn g v (sec (now (work .entry)))) (sec (now (work .entry)))) (pageIn g (tableIn g w (sec (now (work .entry)))) (sec (now (work .entry)))) ⌝ }
+    ensures { λ r. ⌜ foundOf r ≡ goalRun k (goal .0) (pageIn g (tableIn g v (sec (now (work .entry)))) (sec (now (work .entry)))) (pageIn g (tableIn g w (sec (now (work .entry)))) (sec (now (work .entry)))) ⌝ }
 {
     let after = after_in(work, g, v, w, k, goal);
     match after {
-        Found::At(a) => Found::At(a),
-        Found::Nowhere => below_in(work, g, v, w, k, goal),
+        Start::From(a) => Start::From(a),
+        Start::NoRun => below_in(work, g, v, w, k, goal),
     }
 }
 
 // The run that put's k sectors go to: "start 0" for none, else the first free in both views at or after the goal, else the lowest.
-pub fn run_in(s: Opened, work: &[u8], k: usize, goal: Sector) -> Found
+pub fn run_in(s: Opened, work: &[u8], k: usize, goal: Sector) -> Start
     requires { ⌜ (fits s (now work) ≡ true) × (goal .0 < s .geo .s) ⌝ }
-    ensures { λ r. ⌜ r ≡ runIn s (now (work .entry)) k (goal .0) ⌝ }
+    ensures { λ r. ⌜ foundOf r ≡ runIn s (now (work .entry)) k (goal .0) ⌝ }
 {
     if k == 0 {
-        return Found::At(0);
+        return Start::From(Sector(0));
     }
     let g = s.geo;
     let present = present_view(s);

@@ -1,10 +1,10 @@
 -- Its tests in their order; what they showed, and the fit that it requires, is what the change asks. Assumes nothing.
-use native.Mathlib.Omega.{arith}
 use borrow.Author.Needs.{needs}
-use mathlib.Core.Path.{sym, _∙_}
+use mathlib.Core.Path.{ap, sym, _∙_}
 use Rattle.store.proofs.Fitting.{open-fits}
-use Rattle.store.proofs.RoomLaws.{can-put, run-small}
+use Rattle.store.proofs.RoomLaws.{can-put}
 use Rattle.store.proofs.CallLaws.{passed, failed, run-so, put-closed, put-9, put-5, put-11, put-7, put-8, put-done}
+use Rattle.store_find.specs.Inner.{foundOf}
 use Rattle.store_edit.proofs.put_at_fitting.Statement.{statement}
 use Rattle.store_edit.proofs.put_at_fitting.Tie as tie
 
@@ -78,13 +78,10 @@ same-length-2 : tie.Need-same-length-2
 same-length-2 c = search needs
 
 returns-6 : tie.Need-returns-6
-returns-6 c = put-8 _ _ _ _ _ (c .before .before .before .before .before .before .before .before .before .before .before .before .before .before .before .before .before .before .session .given .1) (open-fits _ (c .before .before .before .before .before .before .before .before .before .before .before .before .before .before .before .before .before .before .session .given .1) (c .before .before .before .before .before .before .before .before .before .before .before .before .before .before .before .before .before .before .before .before .before .before .before .pre)) (c .before .before .before .before .before .before .before .before .before .before .before .before .before .before .before .before .if1 .left) (passed (c .before .before .before .before .before .before .before .before .before .before .before .before .before .before .before .good-name .ensures) (c .before .before .before .before .before .before .before .before .before .before .before .before .before .before .if2 .left)) (c .before .before .before .before .before .before .before .before .before .before .before .if3 .left) (sym (c .before .before .before .before .before .before .before .before .before .put-place .ensures) ∙ c .before .before .before .before .before .before .before .j .given .1) (run-so _ _ _ (c .before .before .before .before .before .sectors-of .ensures) (c .before .before .before .run-in .ensures) (c .before .enum-told3 .given .1)) (c .refusal6 .ensures)
-
-cast-start : tie.Need-cast-start
-cast-start c = omega (arith, run-small _ _ _ _ _ (open-fits _ (c .before .before .before .before .before .before .before .before .before .before .before .before .before .before .before .before .before .before .session .given .1) (c .before .before .before .before .before .before .before .before .before .before .before .before .before .before .before .before .before .before .before .before .before .before .before .pre)) (c .before .before .before .run-in .ensures) (c .before .a .given .1))
+returns-6 c = put-8 _ _ _ _ _ (c .before .before .before .before .before .before .before .before .before .before .before .before .before .before .before .before .before .before .session .given .1) (open-fits _ (c .before .before .before .before .before .before .before .before .before .before .before .before .before .before .before .before .before .before .session .given .1) (c .before .before .before .before .before .before .before .before .before .before .before .before .before .before .before .before .before .before .before .before .before .before .before .pre)) (c .before .before .before .before .before .before .before .before .before .before .before .before .before .before .before .before .if1 .left) (passed (c .before .before .before .before .before .before .before .before .before .before .before .before .before .before .before .good-name .ensures) (c .before .before .before .before .before .before .before .before .before .before .before .before .before .before .if2 .left)) (c .before .before .before .before .before .before .before .before .before .before .before .if3 .left) (sym (c .before .before .before .before .before .before .before .before .before .put-place .ensures) ∙ c .before .before .before .before .before .before .before .j .given .1) (run-so _ _ _ (c .before .before .before .before .before .sectors-of .ensures) (c .before .before .before .run-in .ensures) (ap foundOf (c .before .enum-told3 .given .1))) (c .refusal6 .ensures)
 
 put-in-requires : tie.Need-put-in-requires
-put-in-requires c κs = can-put _ _ _ _ _ _ _ (open-fits _ (c .before .before .before .before .before .before .before .before .before .before .before .before .before .before .before .before .before .before .before .session .given .1) (c .before .before .before .before .before .before .before .before .before .before .before .before .before .before .before .before .before .before .before .before .before .before .before .before .pre)) (passed (c .before .before .before .before .before .before .before .before .before .before .before .before .before .before .before .before .good-name .ensures) (c .before .before .before .before .before .before .before .before .before .before .before .before .before .before .before .if2 .left)) (sym (c .before .before .before .before .before .before .before .before .before .before .put-place .ensures) ∙ c .before .before .before .before .before .before .before .before .j .given .1) (run-so _ _ _ (c .before .before .before .before .before .before .sectors-of .ensures) (c .before .before .before .before .run-in .ensures) (c .before .before .a .given .1))
+put-in-requires c κs = can-put _ _ _ _ _ _ _ (open-fits _ (c .before .before .before .before .before .before .before .before .before .before .before .before .before .before .before .before .before .before .before .session .given .1) (c .before .before .before .before .before .before .before .before .before .before .before .before .before .before .before .before .before .before .before .before .before .before .before .before .pre)) (passed (c .before .before .before .before .before .before .before .before .before .before .before .before .before .before .before .before .good-name .ensures) (c .before .before .before .before .before .before .before .before .before .before .before .before .before .before .before .if2 .left)) (sym (c .before .before .before .before .before .before .before .before .before .before .put-place .ensures) ∙ c .before .before .before .before .before .before .before .before .j .given .1) (run-so _ _ _ (c .before .before .before .before .before .before .sectors-of .ensures) (c .before .before .before .before .run-in .ensures) (ap foundOf (c .before .before .a .given .1)))
 
 success-requires : tie.Need-success-requires
 success-requires c κs = search needs
@@ -93,7 +90,7 @@ same-length-3 : tie.Need-same-length-3
 same-length-3 c = search needs
 
 returns-7 : tie.Need-returns-7
-returns-7 c = put-done _ _ _ _ _ (c .before .before .before .before .before .before .before .before .before .before .before .before .before .before .before .before .before .before .before .before .before .before .before .session .given .1) (open-fits _ (c .before .before .before .before .before .before .before .before .before .before .before .before .before .before .before .before .before .before .before .before .before .before .before .session .given .1) (c .before .before .before .before .before .before .before .before .before .before .before .before .before .before .before .before .before .before .before .before .before .before .before .before .before .before .before .before .pre)) (c .before .before .before .before .before .before .before .before .before .before .before .before .before .before .before .before .before .before .before .before .before .if1 .left) (passed (c .before .before .before .before .before .before .before .before .before .before .before .before .before .before .before .before .before .before .before .before .good-name .ensures) (c .before .before .before .before .before .before .before .before .before .before .before .before .before .before .before .before .before .before .before .if2 .left)) (c .before .before .before .before .before .before .before .before .before .before .before .before .before .before .before .before .if3 .left) (sym (c .before .before .before .before .before .before .before .before .before .before .before .before .before .before .put-place .ensures) ∙ c .before .before .before .before .before .before .before .before .before .before .before .before .j .given .1) (run-so _ _ _ (c .before .before .before .before .before .before .before .before .before .before .sectors-of .ensures) (c .before .before .before .before .before .before .before .before .run-in .ensures) (c .before .before .before .before .before .before .a .given .1)) (c .success .ensures) (c .before .before .before .put-in .ensures)
+returns-7 c = put-done _ _ _ _ _ (c .before .before .before .before .before .before .before .before .before .before .before .before .before .before .before .before .before .before .before .before .before .before .before .session .given .1) (open-fits _ (c .before .before .before .before .before .before .before .before .before .before .before .before .before .before .before .before .before .before .before .before .before .before .before .session .given .1) (c .before .before .before .before .before .before .before .before .before .before .before .before .before .before .before .before .before .before .before .before .before .before .before .before .before .before .before .before .pre)) (c .before .before .before .before .before .before .before .before .before .before .before .before .before .before .before .before .before .before .before .before .before .if1 .left) (passed (c .before .before .before .before .before .before .before .before .before .before .before .before .before .before .before .before .before .before .before .before .good-name .ensures) (c .before .before .before .before .before .before .before .before .before .before .before .before .before .before .before .before .before .before .before .if2 .left)) (c .before .before .before .before .before .before .before .before .before .before .before .before .before .before .before .before .if3 .left) (sym (c .before .before .before .before .before .before .before .before .before .before .before .before .before .before .put-place .ensures) ∙ c .before .before .before .before .before .before .before .before .before .before .before .before .j .given .1) (run-so _ _ _ (c .before .before .before .before .before .before .before .before .before .before .sectors-of .ensures) (c .before .before .before .before .before .before .before .before .run-in .ensures) (ap foundOf (c .before .before .before .before .before .before .a .given .1))) (c .success .ensures) (c .before .before .before .put-in .ensures)
 
 pub put-at-fitting-spec : {M : Type 1} → statement M
 put-at-fitting-spec =
@@ -123,7 +120,6 @@ put-at-fitting-spec =
     refusal-requires-6
     same-length-2
     returns-6
-    cast-start
     put-in-requires
     success-requires
     same-length-3

@@ -1,9 +1,11 @@
 -- The goal's page from the goal on, then the later pages. Assumes nothing.
+use mathlib.Core.Path.{ap}
 use native.Mathlib.Omega.{arith}
 use borrow.Author.Needs.{needs}
 use denote.Ref.{now}
 use Rattle.counts.proofs.TableLaws.{pages-cover}
 use Rattle.apages.proofs.ImageSearch.{after-here, after-later}
+use Rattle.store_find.specs.Inner.{foundOf}
 use Rattle.store_find.proofs.after_in.Statement.{statement}
 use Rattle.store_find.proofs.after_in.Tie as tie
 
@@ -21,7 +23,7 @@ enum-known-here c = search needs
 returns : tie.Need-returns
 returns c =
     let s = c .before .before .before .before .before .before .before in
-    after-here (s .args .g) _ _ (now (s .args .work)) _ (s .pre .0) (s .pre .1 .0) (s .pre .1 .1 .1) _ (omega (arith, s .pre .1 .1 .0, pages-cover (s .args .g))) (c .before .before .before .run-on .ensures) _ (c .before .here .given .1)
+    after-here (s .args .g) _ _ (now (s .args .work)) _ (s .pre .0) (s .pre .1 .0) (s .pre .1 .1 .1) _ (omega (arith, s .pre .1 .1 .0, pages-cover (s .args .g))) (c .before .before .before .run-on .ensures) _ (ap foundOf (c .before .here .given .1))
 
 enum-told : tie.Need-enum-told
 enum-told c = search needs
@@ -40,7 +42,7 @@ lowest-in-requires c κs =
 returns-2 : tie.Need-returns-2
 returns-2 c =
     let s = c .before .before .before .before .before .before .before .before in
-    after-later (s .args .g) _ _ (now (s .args .work)) _ (s .pre .0) (s .pre .1 .0) (s .pre .1 .1 .1) _ (omega (arith, s .pre .1 .1 .0, pages-cover (s .args .g))) (c .before .before .before .before .run-on .ensures) (c .before .before .enum-told .given .1) (c .before .pairs .ensures .0) (c .lowest-in .ensures)
+    after-later (s .args .g) _ _ (now (s .args .work)) _ (s .pre .0) (s .pre .1 .0) (s .pre .1 .1 .1) _ (omega (arith, s .pre .1 .1 .0, pages-cover (s .args .g))) (c .before .before .before .before .run-on .ensures) (ap foundOf (c .before .before .enum-told .given .1)) (c .before .pairs .ensures .0) (c .lowest-in .ensures)
 
 pub after-in-spec : {M : Type 1} → statement M
 after-in-spec =

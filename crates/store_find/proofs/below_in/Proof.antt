@@ -1,9 +1,11 @@
 -- The pages before the goal's, then what a run from below the goal can reach of its own. Assumes nothing.
+use mathlib.Core.Path.{ap}
 use native.Mathlib.Omega.{arith}
 use borrow.Author.Needs.{needs}
 use denote.Ref.{now}
 use Rattle.counts.proofs.TableLaws.{pages-cover}
 use Rattle.apages.proofs.ImageSearch.{below-before, below-page}
+use Rattle.store_find.specs.Inner.{foundOf}
 use Rattle.store_find.proofs.below_in.Statement.{statement}
 use Rattle.store_find.proofs.below_in.Tie as tie
 
@@ -18,7 +20,7 @@ enum-known-lower c = search needs
 returns : tie.Need-returns
 returns c =
     let s = c .before .before .before .before .before .before in
-    below-before (s .args .g) _ _ (now (s .args .work)) _ (s .pre .0) (s .pre .1 .0) (s .pre .1 .1 .1 .0) _ (omega (arith, s .pre .1 .1 .0, pages-cover (s .args .g))) (s .pre .1 .1 .1 .1) (c .before .before .before .lowest-in .ensures) _ (c .before .lower .given .1)
+    below-before (s .args .g) _ _ (now (s .args .work)) _ (s .pre .0) (s .pre .1 .0) (s .pre .1 .1 .1 .0) _ (omega (arith, s .pre .1 .1 .0, pages-cover (s .args .g))) (s .pre .1 .1 .1 .1) (c .before .before .before .lowest-in .ensures) _ (ap foundOf (c .before .lower .given .1))
 
 enum-told : tie.Need-enum-told
 enum-told c = search needs
@@ -37,7 +39,7 @@ run-on-requires c κs =
 returns-2 : tie.Need-returns-2
 returns-2 c =
     let s = c .before .before .before .before .before .before .before .before in
-    below-page (s .args .g) _ _ (now (s .args .work)) _ (s .pre .0) (s .pre .1 .0) (s .pre .1 .1 .1 .0) _ (omega (arith, s .pre .1 .1 .0, pages-cover (s .args .g))) (s .pre .1 .1 .1 .1) (c .before .before .before .before .before .lowest-in .ensures) (c .before .before .before .enum-told .given .1) (c .before .reach .ensures) (c .run-on .ensures)
+    below-page (s .args .g) _ _ (now (s .args .work)) _ (s .pre .0) (s .pre .1 .0) (s .pre .1 .1 .1 .0) _ (omega (arith, s .pre .1 .1 .0, pages-cover (s .args .g))) (s .pre .1 .1 .1 .1) (c .before .before .before .before .before .lowest-in .ensures) (ap foundOf (c .before .before .before .enum-told .given .1)) (c .before .reach .ensures) (c .run-on .ensures)
 
 pub below-in-spec : {M : Type 1} → statement M
 below-in-spec =

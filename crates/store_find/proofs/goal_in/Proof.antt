@@ -1,7 +1,8 @@
 -- At or after the goal, else the lowest. Assumes nothing.
-use mathlib.Core.Path.{sym, _∙_}
+use mathlib.Core.Path.{ap, sym, _∙_}
 use borrow.Author.Needs.{needs}
 use Rattle.apages.proofs.ImageSearch.{goal-after, goal-below}
+use Rattle.store_find.specs.Inner.{foundOf}
 use Rattle.store_find.proofs.goal_in.Statement.{statement}
 use Rattle.store_find.proofs.goal_in.Tie as tie
 
@@ -17,13 +18,13 @@ enum-told c = search needs
 below-in-requires : tie.Need-below-in-requires
 below-in-requires c κs =
     let s = c .before .before .before .before in
-    (s .pre .0, (s .pre .1 .0, (s .pre .1 .1 .0, (s .pre .1 .1 .1, sym (c .before .before .after-in .ensures) ∙ c .enum-told .given .1))))
+    (s .pre .0, (s .pre .1 .0, (s .pre .1 .1 .0, (s .pre .1 .1 .1, sym (c .before .before .after-in .ensures) ∙ ap foundOf (c .enum-told .given .1)))))
 
 returns : tie.Need-returns
-returns c = goal-after _ _ _ _ _ (c .before .before .before .after-in .ensures) (c .before .after .given .1)
+returns c = goal-after _ _ _ _ _ (c .before .before .before .after-in .ensures) (ap foundOf (c .before .after .given .1))
 
 returns-2 : tie.Need-returns-2
-returns-2 c = goal-below _ _ _ _ (c .before .before .before .after-in .ensures) (c .before .enum-told .given .1) (c .below-in .ensures)
+returns-2 c = goal-below _ _ _ _ (c .before .before .before .after-in .ensures) (ap foundOf (c .before .enum-told .given .1)) (c .below-in .ensures)
 
 pub goal-in-spec : {M : Type 1} → statement M
 goal-in-spec =

@@ -1,5 +1,5 @@
 -- What is found in the pages that are left. Assumes nothing.
-use mathlib.Core.Path.{_≡_, refl}
+use mathlib.Core.Path.{_≡_, ap, refl}
 use Prim.Native.Nat.{_-_}
 use native.Mathlib.Omega.{arith}
 use borrow.Author.Needs.{needs}
@@ -8,6 +8,7 @@ use Rattle.sectors.specs.Sectors.{sec}
 use Rattle.counts.specs.Stamps.{tableIn}
 use Rattle.apages.specs.Inner.{runFrom}
 use Rattle.apages.proofs.ImageSearch.{search-found, search-go, search-end}
+use Rattle.store_find.specs.Inner.{foundOf}
 use Rattle.store_find.proofs.lowest_in.Statement.{statement}
 use Rattle.store_find.proofs.lowest_in.Tie as tie
 
@@ -31,7 +32,7 @@ enum-known-here c = search needs
 returns : tie.Need-returns Inv-loop μ-loop
 returns c =
     let s = c .before .before .before .before .before .before .before in
-    search-found (s .args .g) _ _ (now (s .args .work)) _ (s .pre .0) (s .pre .1 .0) (s .pre .1 .1 .1) _ _ (omega arith) (s .pre .1 .1 .0) (c .before .before .before .run-on .ensures) (c .before .before .before .before .before .loop .inv) _ (c .before .here .given .1)
+    search-found (s .args .g) _ _ (now (s .args .work)) _ (s .pre .0) (s .pre .1 .0) (s .pre .1 .1 .1) _ _ (omega arith) (s .pre .1 .1 .0) (c .before .before .before .run-on .ensures) (c .before .before .before .before .before .loop .inv) _ (ap foundOf (c .before .here .given .1))
 
 enum-told : tie.Need-enum-told Inv-loop μ-loop
 enum-told c = search needs
@@ -45,7 +46,7 @@ loop-less c = search needs
 loop-again : tie.Need-loop-again Inv-loop μ-loop
 loop-again c =
     let s = c .before .before .before .before .before .before in
-    search-go (s .args .g) _ _ (now (s .args .work)) _ (s .pre .0) (s .pre .1 .0) (s .pre .1 .1 .1) _ _ (omega arith) (s .pre .1 .1 .0) (c .before .before .run-on .ensures) (c .before .before .before .before .loop .inv) (c .enum-told .given .1)
+    search-go (s .args .g) _ _ (now (s .args .work)) _ (s .pre .0) (s .pre .1 .0) (s .pre .1 .1 .1) _ _ (omega arith) (s .pre .1 .1 .0) (c .before .before .run-on .ensures) (c .before .before .before .before .loop .inv) (ap foundOf (c .enum-told .given .1))
 
 returns-2 : tie.Need-returns-2 Inv-loop μ-loop
 returns-2 c =
