@@ -5,7 +5,6 @@ use mathlib.Core.List.{List, []}
 use Prim.Native.Nat.{ℕ, zero, suc, _+_, _-_, _*_, _%_, _≤_, _<_}
 use native.Mathlib.Omega.{arith}
 use lib.ListN.{length}
-use Rattle.words.specs.declared.Found.{Found}
 use Rattle.words.specs.declared.Found.the-variants.{At}
 use Rattle.words.specs.Lists.{firstAt}
 use Rattle.words.proofs.FirstLaws.{at-one, found-at}
@@ -160,11 +159,6 @@ module _ (s : Opened) (work : List ℕ) (F : Fit s work) where
 pub can-put : (s : Opened) (work n d : List ℕ) (goal j a : ℕ) → fits s work ≡ true → goodName n ≡ true → placeIn s work n ≡ At j
     → runIn s work (sectorsFor (length d)) goal ≡ At a → CanEdit s work j (putRun a d) n d
 can-put s work n d goal j a f g p r = put-able s work (fit-inv s work f) j goal a n d f g p r
-
--- the sector that code found is one of the card
-pub run-small : (s : Opened) (work : List ℕ) (k goal a : ℕ) {r : Found} → fits s work ≡ true → r ≡ runIn s work k goal → r ≡ At a → a ≤ 65536
-run-small s work k goal a f er ea =
-    let F = fit-inv s work f in omega (arith, run-room-in s work F k goal a (sym er ∙ ea), limits (s .geo) (F .shape) .sHigh)
 
 pub can-remove : (s : Opened) (work n : List ℕ) (j : ℕ) → fits s work ≡ true → goodName n ≡ true
     → firstAt (named (presentTable s (sec work)) (presentTable s (sec work)) n) 0 (entriesOf (s .geo) (sec work)) ≡ At j → CanEdit s work j (runOf Absent) n []
