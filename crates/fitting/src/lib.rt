@@ -10,7 +10,7 @@ ghost use Rattle.store.specs.Edit.{put, putAt, remove};
 ghost use Rattle.store.specs.Inner.{FitOf};
 ghost use Rattle.store.specs.Look.{get, list, free};
 ghost use Rattle.store.specs.Sync.{land, sync, unmount};
-ghost use Rattle.host_crossing.specs.Crossing.{decoded, roomed, kept};
+ghost use Rattle.host_crossing.specs.Crossing.{decoded, roomed, IsKept, IsKeptNumber};
 use card::Answer;
 use card::Line;
 use host_crossing::decoded;
@@ -133,7 +133,7 @@ pub extern "C" fn fitting_sync_count(
     work: &mut [u8],
 ) -> Answer
     requires { ⌜ FitOf (decoded (now session)) (now work) ⌝ }
-    ensures { λ r. ⌜ (r ≡ sync (decoded (now (session .entry))) (now (card .entry)) (now (work .entry)) .answer) × (((now (session .exit) ≡ kept (sync (decoded (now (session .entry))) (now (card .entry)) (now (work .entry))) (now (session .entry))) × ((now (card .exit) ≡ sync (decoded (now (session .entry))) (now (card .entry)) (now (work .entry)) .card) × (now (work .exit) ≡ sync (decoded (now (session .entry))) (now (card .entry)) (now (work .entry)) .work)))) ⌝ }
+    ensures { λ r. ⌜ IsKept r (now (session .exit)) (now (card .exit)) (now (work .exit)) (now (session .entry)) (sync (decoded (now (session .entry))) (now (card .entry)) (now (work .entry))) ⌝ }
 {
     let b = *session;
     let s = decoded(b);
@@ -145,7 +145,7 @@ pub extern "C" fn fitting_sync_count(
 #[no_mangle]
 pub extern "C" fn fitting_sync(session: &mut [u8; 24], card: &mut [u8], work: &mut [u8]) -> u32
     requires { ⌜ FitOf (decoded (now session)) (now work) ⌝ }
-    ensures { λ r. ⌜ (r ≡ sync (decoded (now (session .entry))) (now (card .entry)) (now (work .entry)) .answer .number) × (((now (session .exit) ≡ kept (sync (decoded (now (session .entry))) (now (card .entry)) (now (work .entry))) (now (session .entry))) × ((now (card .exit) ≡ sync (decoded (now (session .entry))) (now (card .entry)) (now (work .entry)) .card) × (now (work .exit) ≡ sync (decoded (now (session .entry))) (now (card .entry)) (now (work .entry)) .work)))) ⌝ }
+    ensures { λ r. ⌜ IsKeptNumber r (now (session .exit)) (now (card .exit)) (now (work .exit)) (now (session .entry)) (sync (decoded (now (session .entry))) (now (card .entry)) (now (work .entry))) ⌝ }
 {
     let a = fitting_sync_count(session, card, work);
     a.number
@@ -159,7 +159,7 @@ pub extern "C" fn fitting_unmount(
     work: &mut [u8],
 ) -> Answer
     requires { ⌜ FitOf (decoded (now session)) (now work) ⌝ }
-    ensures { λ r. ⌜ (r ≡ unmount (decoded (now (session .entry))) (now (card .entry)) (now (work .entry)) .answer) × (((now (session .exit) ≡ kept (unmount (decoded (now (session .entry))) (now (card .entry)) (now (work .entry))) (now (session .entry))) × ((now (card .exit) ≡ unmount (decoded (now (session .entry))) (now (card .entry)) (now (work .entry)) .card) × (now (work .exit) ≡ unmount (decoded (now (session .entry))) (now (card .entry)) (now (work .entry)) .work)))) ⌝ }
+    ensures { λ r. ⌜ IsKept r (now (session .exit)) (now (card .exit)) (now (work .exit)) (now (session .entry)) (unmount (decoded (now (session .entry))) (now (card .entry)) (now (work .entry))) ⌝ }
 {
     let b = *session;
     let s = decoded(b);

@@ -20,7 +20,7 @@ ghost use Rattle.store.specs.Edit.{put, putAt, remove};
 ghost use Rattle.store.specs.Look.{get, free};
 ghost use Rattle.store.specs.Mount.{mountPlan, mount};
 ghost use Rattle.store.specs.Sync.{bothPlan, land, sync, unmount};
-ghost use Rattle.host_crossing.specs.Crossing.{geoWith, decoded, encoded, reported, roomed, kept};
+ghost use Rattle.host_crossing.specs.Crossing.{geoWith, decoded, reported, roomed, IsMounted, IsKept, IsKeptNumber};
 ghost use Rattle.host_crossing.specs.FirstSteps.{planNumber, mountFirst, syncFirst, unmountFirst};
 use card::Answer;
 use card::refusal;
@@ -83,7 +83,7 @@ pub extern "C" fn store_read_get(card: &[u8], name: &[u8], out: &mut [u8]) -> An
 // "mount 1, 2, 3"; a refused mount gives the closed session.
 #[no_mangle]
 pub extern "C" fn store_mount(card: &mut [u8], work: &mut [u8], session: &mut [u8; 24]) -> u32
-    ensures { λ r. ⌜ (r ≡ mount (now (card .entry)) (now (work .entry)) .answer .number) × ((now (session .exit) ≡ encoded (mount (now (card .entry)) (now (work .entry)) .session)) × ((now (card .exit) ≡ mount (now (card .entry)) (now (work .entry)) .card) × (now (work .exit) ≡ mount (now (card .entry)) (now (work .entry)) .work))) ⌝ }
+    ensures { λ r. ⌜ IsMounted r (now (session .exit)) (now (card .exit)) (now (work .exit)) (mount (now (card .entry)) (now (work .entry))) ⌝ }
 {
     let o = mount(card, work);
     let s = o.session;
@@ -158,7 +158,7 @@ pub extern "C" fn store_sync_count(
     card: &mut [u8],
     work: &mut [u8],
 ) -> Answer
-    ensures { λ r. ⌜ (r ≡ sync (decoded (now (session .entry))) (now (card .entry)) (now (work .entry)) .answer) × (((now (session .exit) ≡ kept (sync (decoded (now (session .entry))) (now (card .entry)) (now (work .entry))) (now (session .entry))) × ((now (card .exit) ≡ sync (decoded (now (session .entry))) (now (card .entry)) (now (work .entry)) .card) × (now (work .exit) ≡ sync (decoded (now (session .entry))) (now (card .entry)) (now (work .entry)) .work)))) ⌝ }
+    ensures { λ r. ⌜ IsKept r (now (session .exit)) (now (card .exit)) (now (work .exit)) (now (session .entry)) (sync (decoded (now (session .entry))) (now (card .entry)) (now (work .entry))) ⌝ }
 {
     let b = *session;
     let s = decoded(b);
@@ -169,7 +169,7 @@ pub extern "C" fn store_sync_count(
 // The same call, its number alone.
 #[no_mangle]
 pub extern "C" fn store_sync(session: &mut [u8; 24], card: &mut [u8], work: &mut [u8]) -> u32
-    ensures { λ r. ⌜ (r ≡ sync (decoded (now (session .entry))) (now (card .entry)) (now (work .entry)) .answer .number) × (((now (session .exit) ≡ kept (sync (decoded (now (session .entry))) (now (card .entry)) (now (work .entry))) (now (session .entry))) × ((now (card .exit) ≡ sync (decoded (now (session .entry))) (now (card .entry)) (now (work .entry)) .card) × (now (work .exit) ≡ sync (decoded (now (session .entry))) (now (card .entry)) (now (work .entry)) .work)))) ⌝ }
+    ensures { λ r. ⌜ IsKeptNumber r (now (session .exit)) (now (card .exit)) (now (work .exit)) (now (session .entry)) (sync (decoded (now (session .entry))) (now (card .entry)) (now (work .entry))) ⌝ }
 {
     let a = store_sync_count(session, card, work);
     a.number
@@ -178,7 +178,7 @@ pub extern "C" fn store_sync(session: &mut [u8; 24], card: &mut [u8], work: &mut
 // "unmount 4, 1, 2", with the number of sectors its sync wrote; with 0 the session's bytes are the closed session, on a refusal as lent.
 #[no_mangle]
 pub extern "C" fn store_unmount(session: &mut [u8; 24], card: &mut [u8], work: &mut [u8]) -> Answer
-    ensures { λ r. ⌜ (r ≡ unmount (decoded (now (session .entry))) (now (card .entry)) (now (work .entry)) .answer) × (((now (session .exit) ≡ kept (unmount (decoded (now (session .entry))) (now (card .entry)) (now (work .entry))) (now (session .entry))) × ((now (card .exit) ≡ unmount (decoded (now (session .entry))) (now (card .entry)) (now (work .entry)) .card) × (now (work .exit) ≡ unmount (decoded (now (session .entry))) (now (card .entry)) (now (work .entry)) .work)))) ⌝ }
+    ensures { λ r. ⌜ IsKept r (now (session .exit)) (now (card .exit)) (now (work .exit)) (now (session .entry)) (unmount (decoded (now (session .entry))) (now (card .entry)) (now (work .entry))) ⌝ }
 {
     let b = *session;
     let s = decoded(b);

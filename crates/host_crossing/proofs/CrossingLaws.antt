@@ -16,15 +16,15 @@ use Rattle.card.specs.Plan.{Changed}
 use Rattle.session.specs.declared.Opened.{Opened}
 use Rattle.session.specs.declared.Session.{Session}
 use Rattle.session.specs.declared.Session.the-variants.{Closed, Open}
+use Rattle.store.specs.declared.Outcome.{Outcome}
 use Rattle.store.specs.declared.Room.{Room}
 use Rattle.store.specs.Edit.{put, putAt, remove}
 use Rattle.store.specs.Look.{get, free}
-use Rattle.store.specs.Mount.{Ended}
+use Rattle.store.specs.Mount.{Ended, IsEnded}
 use Rattle.store.specs.Sync.{land, sync, unmount}
-use Rattle.store.proofs.CardLaws.{Ends}
 use Rattle.store.specs.Inner.{FitOf, FitOn}
 use Rattle.store.proofs.Fitting.{on-of}
-use Rattle.host_crossing.specs.Crossing.{geoWith, openedOf, sessionOf, decoded, stateOf, openedBytes, encoded, reportBytes, reported, roomBytes, roomed, keptBy, kept}
+use Rattle.host_crossing.specs.Crossing.{geoWith, openedOf, sessionOf, decoded, stateOf, openedBytes, encoded, reportBytes, reported, roomBytes, roomed, keptBy, kept, IsMounted, IsKept}
 
 -- ---- a session from bytes
 
@@ -108,17 +108,18 @@ pub land-over : (b card work : List ℕ) (i : ℕ) {s : Session} {a : Answer} {w
     → (a .number ≡ land (decoded b) card work i .answer .number) × (w ≡ land (decoded b) card work i .image)
 land-over b card work i q e = changed-over (λ s. land s card work i) q e
 
-pub mount-over : (e : Ended) {a : Answer} {s : Session} {card work b : List ℕ} → Ends e a s card work → b ≡ encoded s
-    → (a .number ≡ e .answer .number) × ((b ≡ encoded (e .session)) × ((card ≡ e .card) × (work ≡ e .work)))
-mount-over e (p, (q, r)) h = (ap (λ (x : Answer). x .number) p, (h ∙ ap (λ (y : Session). encoded y) q, r))
+pub mount-over : (e : Ended) {r : Outcome} {card work b : List ℕ} → IsEnded r card work e → b ≡ encoded (r .session) → IsMounted (r .answer .number) b card work e
+mount-over e p h =
+    record {
+      number = ap (λ (x : Answer). x .number) (p .answer);
+      bytes = h ∙ ap (λ (y : Session). encoded y) (p .session);
+      card = p .card;
+      work = p .work;
+    }
 
 pub get-over : (b work n out : List ℕ) {s : Session} {a : Answer} {w : List ℕ} → s ≡ decoded b → (a ≡ get s work n out .answer) × (w ≡ get s work n out .out)
     → (a ≡ get (decoded b) work n out .answer) × (w ≡ get (decoded b) work n out .out)
 get-over b work n out q e = rw q at e
-
--- what store_sync_count and store_unmount leave, by the call's outcome and the session's bytes as lent
-abbrev pub Keeps : Ended → List ℕ → Answer → List ℕ → List ℕ → List ℕ → Type 0
-Keeps e b a after card work = (a ≡ e .answer) × ((after ≡ kept e b) × ((card ≡ e .card) × (work ≡ e .work)))
 
 pub keep-refused : (a : Answer) (s : Session) (b : List ℕ) → a .number ≢ 0 → b ≡ keptBy a s b
 unfolding keptBy
@@ -128,15 +129,18 @@ pub keep-through : (a : Answer) (s : Session) (b : List ℕ) {after : List ℕ} 
 unfolding keptBy
 keep-through a s b n h = rw (eq-eqb (a .number) 0 n) h
 
-keeps : (e : Ended) (b : List ℕ) {a r : Answer} {s : Session} {k w after : List ℕ} → Ends e a s k w → (r ≡ a) × (after ≡ keptBy a s b) → Keeps e b r after k w
+keeps : (e : Ended) (b : List ℕ) {r : Outcome} {a : Answer} {k w after : List ℕ} → IsEnded r k w e → (a ≡ r .answer) × (after ≡ keptBy (r .answer) (r .session) b) → IsKept a after k w b e
 unfolding kept
-keeps e b (p, (q, r)) (g, h) = (g ∙ p, (rw (← p, ← q) h, r))
+keeps e b p (g, h) =
+    let u = p .answer in
+    let v = p .session in
+    record { answer = g ∙ u; bytes = rw (← u, ← v) h; card = p .card; work = p .work }
 
-module _ (b card work : List ℕ) {z s : Session} {a r : Answer} {k w after : List ℕ} (i : z ≡ decoded b) where
-  pub sync-kept : Ends (sync z card work) a s k w → (r ≡ a) × (after ≡ keptBy a s b) → Keeps (sync (decoded b) card work) b r after k w
+module _ (b card work : List ℕ) {z : Session} {r : Outcome} {a : Answer} {k w after : List ℕ} (i : z ≡ decoded b) where
+  pub sync-kept : IsEnded r k w (sync z card work) → (a ≡ r .answer) × (after ≡ keptBy (r .answer) (r .session) b) → IsKept a after k w b (sync (decoded b) card work)
   sync-kept g = keeps _ b (rw i at g)
 
-  pub unmount-kept : Ends (unmount z card work) a s k w → (r ≡ a) × (after ≡ keptBy a s b) → Keeps (unmount (decoded b) card work) b r after k w
+  pub unmount-kept : IsEnded r k w (unmount z card work) → (a ≡ r .answer) × (after ≡ keptBy (r .answer) (r .session) b) → IsKept a after k w b (unmount (decoded b) card work)
   unmount-kept g = keeps _ b (rw i at g)
 
 pub read-refused : (e : Report) (out : List ℕ) {r : Report} → r ≡ e → r .number ≢ 0 → (r .number ≡ e .number) × (out ≡ reported e out)

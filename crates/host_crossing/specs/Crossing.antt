@@ -1,4 +1,5 @@
 -- What crosses to a host: a session as 24 bytes, a report as 16. Assumes nothing.
+use mathlib.Core.Path.{_≡_}
 use mathlib.Core.Bool.{Bool, false, cond}
 use mathlib.Core.List.{List, _++_}
 use Prim.Native.Nat.{ℕ}
@@ -69,3 +70,24 @@ keptBy a s b = cond (eqb (a .number) 0) (encoded s) b
 -- what store_sync and store_unmount leave in the session's bytes
 unfoldable pub kept : Ended → List ℕ → List ℕ
 kept e b = keptBy (e .answer) (e .session) b
+
+-- what store_mount says and leaves is what mount's definition leaves: its number, the session's bytes and both images
+pub record IsMounted (number′ : ℕ) (bytes′ card′ work′ : List ℕ) (e : Ended) : Type 0 where
+  pub number : number′ ≡ e .answer .number
+  pub bytes : bytes′ ≡ encoded (e .session)
+  pub card : card′ ≡ e .card
+  pub work : work′ ≡ e .work
+
+-- the same of store_sync_count and store_unmount, to which the session's bytes b are lent: their answer is number and count
+pub record IsKept (answer′ : Answer) (bytes′ card′ work′ : List ℕ) (b : List ℕ) (e : Ended) : Type 0 where
+  pub answer : answer′ ≡ e .answer
+  pub bytes : bytes′ ≡ kept e b
+  pub card : card′ ≡ e .card
+  pub work : work′ ≡ e .work
+
+-- the same of store_sync, which says the number alone
+pub record IsKeptNumber (number′ : ℕ) (bytes′ card′ work′ : List ℕ) (b : List ℕ) (e : Ended) : Type 0 where
+  pub number : number′ ≡ e .answer .number
+  pub bytes : bytes′ ≡ kept e b
+  pub card : card′ ≡ e .card
+  pub work : work′ ≡ e .work

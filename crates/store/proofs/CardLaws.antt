@@ -16,15 +16,13 @@ use Rattle.session.specs.declared.Opened.{Opened}
 use Rattle.session.specs.declared.Session.{Session}
 use Rattle.session.specs.declared.Session.the-variants.{Closed, Open}
 use Rattle.session.specs.Fits.{fits}
-use Rattle.store.specs.Mount.{Ended, mountPlan, openedFrom, mountDone, mount}
+use Rattle.store.specs.declared.Outcome.{Outcome}
+use Rattle.store.specs.Mount.{Ended, IsEnded, mountPlan, openedFrom, mountDone, mount}
 use Rattle.store.specs.Sync.{bothPlan, land}
 use Rattle.store.proofs.CallLaws.{Leaves, leaves}
 
-abbrev pub Ends : Ended → Answer → Session → List ℕ → List ℕ → Type 0
-Ends e a o x y = (a ≡ e .answer) × ((o ≡ e .session) × ((x ≡ e .card) × (y ≡ e .work)))
-
-pub ends : (e : Ended) {f : Ended} {a : Answer} {o : Session} {x y : List ℕ} → e ≡ f → a ≡ f .answer → o ≡ f .session → x ≡ f .card → y ≡ f .work → Ends e a o x y
-ends e h p q u v = rw h (p, (q, (u, v)))
+pub ends : (e : Ended) {f : Ended} {r : Outcome} {x y : List ℕ} → e ≡ f → r .answer ≡ f .answer → r .session ≡ f .session → x ≡ f .card → y ≡ f .work → IsEnded r x y e
+ends e h p q u v = record { answer = rw h p; session = rw h q; card = rw h u; work = rw h v }
 
 -- ---- mount
 
@@ -34,35 +32,35 @@ module _ (card work : List ℕ) where
   unfolding mount
   mount-by ep = ap (λ (p : Plan). ended {A = Ended} p (λ k. record { answer = refused k; session = Closed; card = card; work = work }) (λ j a. mountDone card)) ep
 
-  mount-stop : {k : ℕ} {a : Answer} {o : Session} → mountPlan card work ≡ refuse k → (a ≡ refused k) × (o ≡ Closed) → Ends (mount card work) a o card work
+  mount-stop : {k : ℕ} {r : Outcome} → mountPlan card work ≡ refuse k → (r .answer ≡ refused k) × (r .session ≡ Closed) → IsEnded r card work (mount card work)
   unfolding ended
   mount-stop ep f = ends _ (mount-by ep) (f .0) (f .1) refl refl
 
-  pub mount-shape : {a : Answer} {o : Session} → shapeOk card ≡ false → (a ≡ refused 1) × (o ≡ Closed) → Ends (mount card work) a o card work
+  pub mount-shape : {r : Outcome} → shapeOk card ≡ false → (r .answer ≡ refused 1) × (r .session ≡ Closed) → IsEnded r card work (mount card work)
   unfolding mountPlan
   mount-shape z = mount-stop (guard-no 1 _ (ap (λ (b : Bool). b && eqb (length work) (length card)) z))
 
   sized : shapeOk card ≡ true → {b : Bool} → eqb (length work) (length card) ≡ b → (shapeOk card && eqb (length work) (length card)) ≡ b
   sized z l = ap (λ (b : Bool). b && eqb (length work) (length card)) z ∙ l
 
-  pub mount-size : {a : Answer} {o : Session} → shapeOk card ≡ true → (length work ≡ length card → ⊥) → (a ≡ refused 1) × (o ≡ Closed)
-      → Ends (mount card work) a o card work
+  pub mount-size : {r : Outcome} → shapeOk card ≡ true → (length work ≡ length card → ⊥) → (r .answer ≡ refused 1) × (r .session ≡ Closed)
+      → IsEnded r card work (mount card work)
   unfolding mountPlan
   mount-size z d = mount-stop (guard-no 1 _ (sized z (ne-eqb _ _ d)))
 
-  pub mount-2 : {a : Answer} {o : Session} → shapeOk card ≡ true → length work ≡ length card → sound card ≡ false → (a ≡ refused 2) × (o ≡ Closed)
-      → Ends (mount card work) a o card work
+  pub mount-2 : {r : Outcome} → shapeOk card ≡ true → length work ≡ length card → sound card ≡ false → (r .answer ≡ refused 2) × (r .session ≡ Closed)
+      → IsEnded r card work (mount card work)
   unfolding mountPlan
   mount-2 z d k = mount-stop (guard-yes 1 _ (sized z (eq-eqb _ _ d)) ∙ guard-no 2 _ k)
 
-  pub mount-3 : {a : Answer} {o : Session} → shapeOk card ≡ true → length work ≡ length card → sound card ≡ true
-      → ltb (countOf (sec card)) (gN (geoOf (sec card))) ≡ false → (a ≡ refused 3) × (o ≡ Closed) → Ends (mount card work) a o card work
+  pub mount-3 : {r : Outcome} → shapeOk card ≡ true → length work ≡ length card → sound card ≡ true
+      → ltb (countOf (sec card)) (gN (geoOf (sec card))) ≡ false → (r .answer ≡ refused 3) × (r .session ≡ Closed) → IsEnded r card work (mount card work)
   unfolding mountPlan
   mount-3 z d k c = mount-stop (guard-yes 1 _ (sized z (eq-eqb _ _ d)) ∙ guard-yes 2 _ k ∙ guard-no 3 _ c)
 
-  pub mount-done : {a : Answer} {o : Session} {s : Opened} {x y : List ℕ} → shapeOk card ≡ true → length work ≡ length card → sound card ≡ true
-      → ltb (countOf (sec card)) (gN (geoOf (sec card))) ≡ true → a ≡ done 0 → o ≡ Open s → s ≡ openedFrom card → x ≡ mountDone card .card → y ≡ mountDone card .work
-      → Ends (mount card work) a o x y
+  pub mount-done : {r : Outcome} {s : Opened} {x y : List ℕ} → shapeOk card ≡ true → length work ≡ length card → sound card ≡ true
+      → ltb (countOf (sec card)) (gN (geoOf (sec card))) ≡ true → r .answer ≡ done 0 → r .session ≡ Open s → s ≡ openedFrom card → x ≡ mountDone card .card → y ≡ mountDone card .work
+      → IsEnded r x y (mount card work)
   unfolding mountPlan ended mountDone
   mount-done z d k c f g h u v =
       ends _ (mount-by (guard-yes 1 _ (sized z (eq-eqb _ _ d)) ∙ guard-yes 2 _ k ∙ guard-yes 3 _ c)) f (g ∙ ap Open h) u v

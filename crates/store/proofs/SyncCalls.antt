@@ -5,21 +5,21 @@ use mathlib.Core.List.{List, []}
 use Prim.Native.Nat.{ℕ, _*_}
 use lib.ListN.{length}
 use Rattle.sectors.specs.Sectors.{applySteps, writesIn}
-use Rattle.card.specs.declared.Answer.{Answer}
 use Rattle.card.specs.Plan.{Plan, refuse, doIt, guard, ended, refused, done}
 use Rattle.card.proofs.PlanLaws.{guard-no, guard-yes}
 use Rattle.session.specs.declared.Opened.{Opened}
 use Rattle.session.specs.declared.Session.{Session}
 use Rattle.session.specs.declared.Session.the-variants.{Closed, Open}
 use Rattle.session.specs.Fits.{fits}
+use Rattle.store.specs.declared.Outcome.{Outcome}
 use Rattle.store.specs.Steps.{syncSteps, unmountSteps, unmountCount, syncWork, unmountWork, atTop}
-use Rattle.store.specs.Mount.{Ended}
+use Rattle.store.specs.Mount.{Ended, IsEnded}
 use Rattle.store.specs.Sync.{bothPlan, grown, syncDone, sync, unmountDone, unmount}
-use Rattle.store.proofs.CardLaws.{Ends, ends, both-1, both-2, both-ok}
+use Rattle.store.proofs.CardLaws.{ends, both-1, both-2, both-ok}
 
 -- ---- sync
 
-pub sync-closed : (card work : List ℕ) {o p : Session} {a : Answer} → o ≡ Closed → (a ≡ refused 4) × (p ≡ o) → Ends (sync o card work) a p card work
+pub sync-closed : (card work : List ℕ) {o : Session} {r : Outcome} → o ≡ Closed → (r .answer ≡ refused 4) × (r .session ≡ o) → IsEnded r card work (sync o card work)
 unfolding sync
 sync-closed card work e f = ends _ (ap (λ (q : Session). sync q card work) e) (f .0) (f .1 ∙ e) refl refl
 
@@ -31,29 +31,29 @@ module _ (s : Opened) (card work : List ℕ) {o : Session} (eo : o ≡ Open s) w
       ap (λ (q : Session). sync q card work) eo
       ∙ ap (λ (p : Plan). ended {A = Ended} p (λ k. record { answer = refused k; session = Open s; card = card; work = work }) (λ j a. syncDone s card work)) ep
 
-  sync-stop : {k : ℕ} {a : Answer} {p : Session} → bothPlan s card work (guard 9 (not (s .worn)) (doIt 0 0)) ≡ refuse k → (a ≡ refused k) × (p ≡ Open s) → Ends (sync o card work) a p card work
+  sync-stop : {k : ℕ} {r : Outcome} → bothPlan s card work (guard 9 (not (s .worn)) (doIt 0 0)) ≡ refuse k → (r .answer ≡ refused k) × (r .session ≡ Open s) → IsEnded r card work (sync o card work)
   unfolding ended
   sync-stop ep f = ends _ (sync-by ep) (f .0) (f .1) refl refl
 
-  pub sync-1 : {a : Answer} {p : Session} → (length card ≡ 512 * s .geo .s → ⊥) → (a ≡ refused 1) × (p ≡ Open s) → Ends (sync o card work) a p card work
+  pub sync-1 : {r : Outcome} → (length card ≡ 512 * s .geo .s → ⊥) → (r .answer ≡ refused 1) × (r .session ≡ Open s) → IsEnded r card work (sync o card work)
   sync-1 d = sync-stop (both-1 s card work _ d)
 
-  pub sync-2 : {a : Answer} {p : Session} → length card ≡ 512 * s .geo .s → fits s work ≡ false → (a ≡ refused 2) × (p ≡ Open s) → Ends (sync o card work) a p card work
+  pub sync-2 : {r : Outcome} → length card ≡ 512 * s .geo .s → fits s work ≡ false → (r .answer ≡ refused 2) × (r .session ≡ Open s) → IsEnded r card work (sync o card work)
   sync-2 d z = sync-stop (both-2 s card work _ d z)
 
-  pub sync-9 : {a : Answer} {p : Session} → length card ≡ 512 * s .geo .s → fits s work ≡ true → s .worn ≡ true → (a ≡ refused 9) × (p ≡ Open s) → Ends (sync o card work) a p card work
+  pub sync-9 : {r : Outcome} → length card ≡ 512 * s .geo .s → fits s work ≡ true → s .worn ≡ true → (r .answer ≡ refused 9) × (r .session ≡ Open s) → IsEnded r card work (sync o card work)
   unfolding guard
   sync-9 d z w = sync-stop (both-ok s card work _ d z ∙ guard-no 9 _ (ap not w))
 
-  pub sync-done : {a : Answer} {p : Session} {n : Opened} {w : ℕ} {x y : List ℕ} → length card ≡ 512 * s .geo .s → fits s work ≡ true → s .worn ≡ false → a ≡ done w → p ≡ Open n
-      → (n ≡ grown (atTop s) s) × ((w ≡ writesIn (syncSteps s card work [])) × ((x ≡ applySteps (syncSteps s card work []) card) × (y ≡ syncWork s work))) → Ends (sync o card work) a p x y
+  pub sync-done : {r : Outcome} {n : Opened} {w : ℕ} {x y : List ℕ} → length card ≡ 512 * s .geo .s → fits s work ≡ true → s .worn ≡ false → r .answer ≡ done w → r .session ≡ Open n
+      → (n ≡ grown (atTop s) s) × ((w ≡ writesIn (syncSteps s card work [])) × ((x ≡ applySteps (syncSteps s card work []) card) × (y ≡ syncWork s work))) → IsEnded r x y (sync o card work)
   unfolding guard ended syncDone
   sync-done d z w f g h =
       ends _ (sync-by (both-ok s card work _ d z ∙ guard-yes 9 _ (ap not w))) (f ∙ ap done (h .1 .0)) (g ∙ ap Open (h .0)) (h .1 .1 .0) (h .1 .1 .1)
 
 -- ---- unmount
 
-pub unmount-closed : (card work : List ℕ) {o p : Session} {a : Answer} → o ≡ Closed → (a ≡ refused 4) × (p ≡ o) → Ends (unmount o card work) a p card work
+pub unmount-closed : (card work : List ℕ) {o : Session} {r : Outcome} → o ≡ Closed → (r .answer ≡ refused 4) × (r .session ≡ o) → IsEnded r card work (unmount o card work)
 unfolding unmount
 unmount-closed card work e f = ends _ (ap (λ (q : Session). unmount q card work) e) (f .0) (f .1 ∙ e) refl refl
 
@@ -65,17 +65,17 @@ module _ (s : Opened) (card work : List ℕ) {o : Session} (eo : o ≡ Open s) w
       ap (λ (q : Session). unmount q card work) eo
       ∙ ap (λ (p : Plan). ended {A = Ended} p (λ k. record { answer = refused k; session = Open s; card = card; work = work }) (λ j a. unmountDone s card work)) ep
 
-  unmount-stop : {k : ℕ} {a : Answer} {p : Session} → bothPlan s card work (doIt 0 0) ≡ refuse k → (a ≡ refused k) × (p ≡ Open s) → Ends (unmount o card work) a p card work
+  unmount-stop : {k : ℕ} {r : Outcome} → bothPlan s card work (doIt 0 0) ≡ refuse k → (r .answer ≡ refused k) × (r .session ≡ Open s) → IsEnded r card work (unmount o card work)
   unfolding ended
   unmount-stop ep f = ends _ (unmount-by ep) (f .0) (f .1) refl refl
 
-  pub unmount-1 : {a : Answer} {p : Session} → (length card ≡ 512 * s .geo .s → ⊥) → (a ≡ refused 1) × (p ≡ Open s) → Ends (unmount o card work) a p card work
+  pub unmount-1 : {r : Outcome} → (length card ≡ 512 * s .geo .s → ⊥) → (r .answer ≡ refused 1) × (r .session ≡ Open s) → IsEnded r card work (unmount o card work)
   unmount-1 d = unmount-stop (both-1 s card work _ d)
 
-  pub unmount-2 : {a : Answer} {p : Session} → length card ≡ 512 * s .geo .s → fits s work ≡ false → (a ≡ refused 2) × (p ≡ Open s) → Ends (unmount o card work) a p card work
+  pub unmount-2 : {r : Outcome} → length card ≡ 512 * s .geo .s → fits s work ≡ false → (r .answer ≡ refused 2) × (r .session ≡ Open s) → IsEnded r card work (unmount o card work)
   unmount-2 d z = unmount-stop (both-2 s card work _ d z)
 
-  pub unmount-done : {a : Answer} {p : Session} {w : ℕ} {x y : List ℕ} → length card ≡ 512 * s .geo .s → fits s work ≡ true → a ≡ done w → p ≡ Closed
-      → (w ≡ unmountCount s card work) × ((x ≡ applySteps (unmountSteps s card work) card) × (y ≡ unmountWork s work)) → Ends (unmount o card work) a p x y
+  pub unmount-done : {r : Outcome} {w : ℕ} {x y : List ℕ} → length card ≡ 512 * s .geo .s → fits s work ≡ true → r .answer ≡ done w → r .session ≡ Closed
+      → (w ≡ unmountCount s card work) × ((x ≡ applySteps (unmountSteps s card work) card) × (y ≡ unmountWork s work)) → IsEnded r x y (unmount o card work)
   unfolding ended unmountDone
   unmount-done d z f g h = ends _ (unmount-by (both-ok s card work _ d z)) (f ∙ ap done (h .0)) g (h .1 .0) (h .1 .1)

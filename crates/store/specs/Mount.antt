@@ -1,4 +1,5 @@
 -- mount: "1, 2, 3". Assumes nothing.
+use mathlib.Core.Path.{_≡_}
 use mathlib.Core.Bool.{false, _&&_}
 use mathlib.Core.List.{List}
 use Prim.Native.Nat.{ℕ, _+_}
@@ -12,6 +13,7 @@ use Rattle.card.specs.Sound.{shapeOk, sound}
 use Rattle.session.specs.declared.Opened.{Opened}
 use Rattle.session.specs.declared.Session.{Session}
 use Rattle.session.specs.declared.Session.the-variants.{Closed, Open}
+use Rattle.store.specs.declared.Outcome.{Outcome}
 use Rattle.store.specs.Steps.{mountSteps}
 
 -- what mount, sync and unmount leave: their answer, the session and both images
@@ -20,6 +22,13 @@ pub record Ended : Type 0 where
   pub session : Session
   pub card : List ℕ
   pub work : List ℕ
+
+-- what such a call gives back, and the images after it, are what its definition leaves
+pub record IsEnded (r : Outcome) (card′ work′ : List ℕ) (e : Ended) : Type 0 where
+  pub answer : r .answer ≡ e .answer
+  pub session : r .session ≡ e .session
+  pub card : card′ ≡ e .card
+  pub work : work′ ≡ e .work
 
 -- "mount 1, 2, 3"
 unfoldable pub mountPlan : List ℕ → List ℕ → Plan

@@ -9,7 +9,7 @@ ghost use Rattle.sectors.specs.Sectors.{sec};
 ghost use Rattle.counts.specs.Geometry.{gN, geoOf, countOf};
 ghost use Rattle.card.specs.Plan.{refused};
 ghost use Rattle.card.specs.Sound.{shapeOk};
-ghost use Rattle.store.specs.Mount.{mount};
+ghost use Rattle.store.specs.Mount.{IsEnded, mount};
 ghost use Rattle.store.specs.Sync.{land, sync, unmount};
 ghost use Rattle.store.specs.Inner.{FitOn};
 use card::Answer;
@@ -46,7 +46,7 @@ fn has_count(card: &[u8]) -> bool
 
 // "mount 1, 2, 3"
 pub fn mount(card: &mut [u8], work: &mut [u8]) -> Outcome
-    ensures { λ r. ⌜ (r .answer ≡ mount (now (card .entry)) (now (work .entry)) .answer) × ((r .session ≡ mount (now (card .entry)) (now (work .entry)) .session) × ((now (card .exit) ≡ mount (now (card .entry)) (now (work .entry)) .card) × (now (work .exit) ≡ mount (now (card .entry)) (now (work .entry)) .work))) ⌝ }
+    ensures { λ r. ⌜ IsEnded r (now (card .exit)) (now (work .exit)) (mount (now (card .entry)) (now (work .entry))) ⌝ }
 {
     let shape = shape_ok(card);
     if !shape {
@@ -103,7 +103,7 @@ pub fn land(session: Session, card: &mut [u8], work: &[u8], i: Sector) -> Answer
 // Sync in a session that fits: 4, 1, 9
 pub fn sync_fitting(session: Session, card: &mut [u8], work: &mut [u8]) -> Outcome
     requires { ⌜ FitOn session (now card) (now work) ⌝ }
-    ensures { λ r. ⌜ (r .answer ≡ sync session (now (card .entry)) (now (work .entry)) .answer) × ((r .session ≡ sync session (now (card .entry)) (now (work .entry)) .session) × ((now (card .exit) ≡ sync session (now (card .entry)) (now (work .entry)) .card) × (now (work .exit) ≡ sync session (now (card .entry)) (now (work .entry)) .work))) ⌝ }
+    ensures { λ r. ⌜ IsEnded r (now (card .exit)) (now (work .exit)) (sync session (now (card .entry)) (now (work .entry))) ⌝ }
 {
     let Session::Open(s) = session else {
         return stays(session, 4);
@@ -125,7 +125,7 @@ pub fn sync_fitting(session: Session, card: &mut [u8], work: &mut [u8]) -> Outco
 
 // "sync 4, 1, 2, 9", with the number of sectors written
 pub fn sync(session: Session, card: &mut [u8], work: &mut [u8]) -> Outcome
-    ensures { λ r. ⌜ (r .answer ≡ sync session (now (card .entry)) (now (work .entry)) .answer) × ((r .session ≡ sync session (now (card .entry)) (now (work .entry)) .session) × ((now (card .exit) ≡ sync session (now (card .entry)) (now (work .entry)) .card) × (now (work .exit) ≡ sync session (now (card .entry)) (now (work .entry)) .work))) ⌝ }
+    ensures { λ r. ⌜ IsEnded r (now (card .exit)) (now (work .exit)) (sync session (now (card .entry)) (now (work .entry))) ⌝ }
 {
     let unfit = unfit_on(session, card, work);
     if unfit {
@@ -137,7 +137,7 @@ pub fn sync(session: Session, card: &mut [u8], work: &mut [u8]) -> Outcome
 // Unmount of a session that fits: 4, 1
 pub fn unmount_fitting(session: Session, card: &mut [u8], work: &mut [u8]) -> Outcome
     requires { ⌜ FitOn session (now card) (now work) ⌝ }
-    ensures { λ r. ⌜ (r .answer ≡ unmount session (now (card .entry)) (now (work .entry)) .answer) × ((r .session ≡ unmount session (now (card .entry)) (now (work .entry)) .session) × ((now (card .exit) ≡ unmount session (now (card .entry)) (now (work .entry)) .card) × (now (work .exit) ≡ unmount session (now (card .entry)) (now (work .entry)) .work))) ⌝ }
+    ensures { λ r. ⌜ IsEnded r (now (card .exit)) (now (work .exit)) (unmount session (now (card .entry)) (now (work .entry))) ⌝ }
 {
     let Session::Open(s) = session else {
         return stays(session, 4);
@@ -155,7 +155,7 @@ pub fn unmount_fitting(session: Session, card: &mut [u8], work: &mut [u8]) -> Ou
 
 // "unmount 4, 1, 2", with the number of sectors its sync wrote
 pub fn unmount(session: Session, card: &mut [u8], work: &mut [u8]) -> Outcome
-    ensures { λ r. ⌜ (r .answer ≡ unmount session (now (card .entry)) (now (work .entry)) .answer) × ((r .session ≡ unmount session (now (card .entry)) (now (work .entry)) .session) × ((now (card .exit) ≡ unmount session (now (card .entry)) (now (work .entry)) .card) × (now (work .exit) ≡ unmount session (now (card .entry)) (now (work .entry)) .work))) ⌝ }
+    ensures { λ r. ⌜ IsEnded r (now (card .exit)) (now (work .exit)) (unmount session (now (card .entry)) (now (work .entry))) ⌝ }
 {
     let unfit = unfit_on(session, card, work);
     if unfit {

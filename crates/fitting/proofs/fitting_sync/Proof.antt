@@ -15,7 +15,7 @@ same-length-2 : tie.Need-same-length-2
 same-length-2 c = search needs
 
 returns : tie.Need-returns
-returns c = let e = c .before .before .before .before .fitting-sync-count .ensures in (ap (λ (a : Answer). a .number) (e .0), e .1)
+returns c = let e = c .before .before .before .before .fitting-sync-count .ensures in record { number = ap (λ (a : Answer). a .number) (e .answer); bytes = e .bytes; card = e .card; work = e .work }
 
 pub fitting-sync-spec : {M : Type 1} → statement M
 fitting-sync-spec = tie.close (tie.spec fitting-sync-count-requires same-length same-length-2 returns)
