@@ -1,16 +1,24 @@
-//! Calls without the fit test beside the tested ones.
+//! Calls without the fit test beside the tested ones, and beside what is left of
+//! them: finding an entry and copying its file, copying a sector.
 
 use super::bed::{first_data, Bed, Call, Directory, Geometry, LARGEST, PAGE};
-use super::markdown::{card, nanoseconds, range, ratio, table};
+use super::markdown::{card, marked, nanoseconds, range, ratio, table};
 use super::timing::{clock, low, timed};
 use crate::fitting::Module;
 use crate::host::{self, SessionBytes};
 use crate::plain::{self, PAGE_SECTORS, SECTOR};
+use std::hint::black_box;
+use std::ops::Range;
 use std::time::{Duration, Instant};
 
 const SPENT: Duration = Duration::from_millis(300);
 const MOST_RUNS: usize = 2_001;
 const LEAST_RUNS: usize = 15;
+
+/// Most of a get in finding its entry and copying the file, and of a land in
+/// copying a sector.
+const GET: f64 = 3.0;
+const LAND: f64 = 1.5;
 
 /// The calls that a module makes most.
 const CALLS: [Call; 5] = [
@@ -27,6 +35,8 @@ struct Before {
     name: Vec<u8>,
     content: Vec<u8>,
     sector: u32,
+    /// Where the directory's bytes are.
+    entries: Range<usize>,
 }
 
 impl Before {
@@ -45,6 +55,7 @@ impl Before {
             name,
             content: vec![7; call.content_bytes()],
             sector: first_data(geometry),
+            entries: directory_of(geometry),
         }
     }
 
@@ -75,35 +86,75 @@ impl Before {
         }
     }
 
-    /// The time of both, taking turns; before each run its images are copied
+    /// What is left of a call without any test, where it has a plain name: of a
+    /// get, of a land.
+    fn bare(&self, call: Call, lent: &mut Lent, out: &mut [u8]) -> u32 {
+        match call {
+            Call::Get => found_and_copied(&lent.work, self.entries.clone(), &self.name, out),
+            Call::Land => {
+                let sector = SECTOR * self.sector as usize;
+                let range = sector..sector + SECTOR;
+                lent.card[range.clone()].copy_from_slice(black_box(&lent.work[range]));
+                plain::DONE
+            }
+            _ => plain::DONE,
+        }
+    }
+
+    /// The time of each, taking turns; before each run its images are copied
     /// afresh.
-    fn race(&self, call: Call) -> [f64; 2] {
+    fn race(&self, call: Call) -> [f64; 3] {
         let mut module = self.module.clone();
         let mut lent = Lent::of(&self.module);
         let mut out = vec![0; SECTOR];
-        let mut times = [Vec::new(), Vec::new()];
+        let mut times = [Vec::new(), Vec::new(), Vec::new()];
         let begun = Instant::now();
         for run in 0..MOST_RUNS {
             if run >= LEAST_RUNS && begun.elapsed() > SPENT {
                 break;
             }
-            let mut numbers = [0; 2];
-            for turn in [run % 2, (run + 1) % 2] {
+            for turn in [run % 3, (run + 1) % 3, (run + 2) % 3] {
                 let (time, number) = if turn == 0 {
                     module.copy_from(&self.module);
                     timed(|| self.untested(call, &mut module, &mut out))
                 } else {
                     lent.copy_from(&self.module);
-                    timed(|| self.tested(call, &mut lent, &mut out))
+                    match turn {
+                        1 => timed(|| self.tested(call, &mut lent, &mut out)),
+                        _ => timed(|| self.bare(call, &mut lent, &mut out)),
+                    }
                 };
                 times[turn].push(time);
-                numbers[turn] = number;
+                assert_eq!(number, plain::DONE);
             }
-            assert_eq!(numbers, [plain::DONE; 2]);
         }
         let idle = clock();
         times.map(|mut list| (low(&mut list) - idle).max(0.1))
     }
+}
+
+/// The bytes of the directory: the D sectors before the data.
+fn directory_of(geometry: Geometry) -> Range<usize> {
+    let end = first_data(geometry);
+    SECTOR * (end - geometry.2) as usize..SECTOR * end as usize
+}
+
+/// The first entry of the name is looked for, and the file of its new version,
+/// if present, copied: no view, no test of what the card says.
+#[inline(never)]
+fn found_and_copied(work: &[u8], entries: Range<usize>, name: &[u8], out: &mut [u8]) -> u32 {
+    let word = |entry: &[u8], at: usize| {
+        let bytes = entry[at..at + 4].try_into().expect("four bytes");
+        u32::from_le_bytes(bytes) as usize
+    };
+    let named = |entry: &&[u8]| word(entry, 8) == name.len() && &entry[12..12 + name.len()] == name;
+    let found = black_box(work)[entries].chunks_exact(128).find(named);
+    let Some(entry) = found.filter(|entry| word(entry, 44) == 1) else {
+        return plain::NO_FILE;
+    };
+    let (start, bytes) = (SECTOR * word(entry, 48), word(entry, 56));
+    out[..bytes].copy_from_slice(&work[start..start + bytes]);
+    plain::DONE
 }
 
 /// What the tested calls are lent.
@@ -129,14 +180,20 @@ impl Lent {
     }
 }
 
-/// Put, get, remove, free and land without the test and with it.
+/// Put, get, remove, free and land without the test and with it, and get and
+/// land beside what is left of them.
 pub fn untested() -> String {
     let (mut rows, mut ratios) = (Vec::new(), Vec::new());
     for geometry in [(10, 1, 1), PAGE, (PAGE_SECTORS, 512, 64), LARGEST] {
         for directory in [Directory::Fresh, Directory::Full] {
             for call in CALLS {
-                let [without, with] = Before::of(geometry, directory, call).race(call);
+                let [without, with, bare] = Before::of(geometry, directory, call).race(call);
                 ratios.push(without / with);
+                let [left, more] = match call {
+                    Call::Get => [nanoseconds(bare), marked(without / bare, GET)],
+                    Call::Land => [nanoseconds(bare), marked(without / bare, LAND)],
+                    _ => [String::new(), String::new()],
+                };
                 rows.push(vec![
                     card(geometry),
                     directory.name().into(),
@@ -144,6 +201,8 @@ pub fn untested() -> String {
                     nanoseconds(without),
                     nanoseconds(with),
                     ratio(without / with),
+                    left,
+                    more,
                 ]);
             }
         }
@@ -155,10 +214,16 @@ pub fn untested() -> String {
         "without",
         "with",
         "without / with",
+        "bare",
+        "without / bare",
     ];
     format!(
         "### Without the fit test\n\n\
-         The functions of crate fitting beside those of crate host, from the same state.\n\n{}\n{}",
+         The functions of crate fitting beside those of crate host, from the same state. Bare is, of a\n\
+         get, finding the entry of the name and copying its file, with no view and no test; of a land,\n\
+         copying 512 bytes. What is left of a put is its search for an entry and a run, the content, the\n\
+         entry and the pages; of a remove, its search, the entry and the pages; of free, its pass over\n\
+         the pages of both views.\n\n{}\n{}",
         table(3, &head, &rows),
         range("Without / with", &ratios, 1.0)
     )
