@@ -224,9 +224,8 @@ struct store_answer store_list(const uint8_t session[24],
  * sector 0, and a barrier, behind which everything written has landed. Sync's
  * are sector 0, the S - T - 1 sectors past the table in rising order, a barrier,
  * the table sector, a barrier; a sector that does not differ is not written.
- * Unmount's are sync's, and then sector 0. Past the last place nothing happens,
- * but the loop goes on to k: lend no k far past it. The count is that of the
- * sectors written so far. */
+ * Unmount's are sync's, and then sector 0. Past the last place nothing
+ * happens: any k may be lent. The count is that of the sectors written so far. */
 uint32_t store_mount_steps(uint8_t *card, size_t card_len,
                            const uint8_t *work, size_t work_len, uint32_t k);
 struct store_answer store_sync_steps(const uint8_t session[24],
