@@ -7,7 +7,7 @@ use native.Mathlib.Omega.{arith}
 use lib.ListN.{length, getD, set}
 use lib.Seq.{getD-set-same, set-getD, set-set}
 use Rattle.apages.specs.Bits.{digit, putDigit, putBit, setRun}
-use Rattle.apages.proofs.BitLaws.{digit-zero, digit-same, digit-other, digits-ext, putDigit-lt}
+use Rattle.apages.proofs.BitLaws.{digit-zero, digit-full, digit-same, digit-other, digits-ext, putDigit-lt}
 use Rattle.apages.specs.Inner.{putDigits}
 
 digits-in : (x k b v : ℕ) → v < 2 → b < k → digit (putDigits x k v) b ≡ v
@@ -24,20 +24,9 @@ unfolding putDigits
 digits-lt x zero v two l h = h
 digits-lt x (suc k) v two l h = putDigit-lt 8 (putDigits x k v) k v two (omega arith) (digits-lt x k v two (omega arith) h)
 
-all-ones : (b : ℕ) → b < 8 → digit 255 b ≡ 1
-all-ones zero h = refl
-all-ones (suc zero) h = refl
-all-ones (suc (suc zero)) h = refl
-all-ones (suc (suc (suc zero))) h = refl
-all-ones (suc (suc (suc (suc zero)))) h = refl
-all-ones (suc (suc (suc (suc (suc zero))))) h = refl
-all-ones (suc (suc (suc (suc (suc (suc zero)))))) h = refl
-all-ones (suc (suc (suc (suc (suc (suc (suc zero))))))) h = refl
-all-ones (suc (suc (suc (suc (suc (suc (suc (suc b)))))))) h = absurd (omega arith)
-
 all-same : (v b : ℕ) → v < 2 → b < 8 → digit (255 * v) b ≡ v
 all-same zero b two h = digit-zero b
-all-same (suc zero) b two h = all-ones b h
+all-same (suc zero) b two h = digit-full b h
 all-same (suc (suc v)) b two h = absurd (omega arith)
 
 -- a byte with all of its bits made v
