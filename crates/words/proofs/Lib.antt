@@ -1,6 +1,7 @@
 -- Laws and proofs that belong to no one function.
 pub mod BoolLaws
 pub mod SpliceLaws
+pub mod SameLaws
 pub mod WordLaws
 pub mod FourWords
 pub mod EveryLaws
