@@ -1,14 +1,22 @@
--- A run that is a whole byte of bits, and runs set one after the other. Assumes nothing.
-use mathlib.Core.Path.{_≡_, refl, sym, ap, _∙_}
+-- A run that is whole bytes of bits, and runs set one after the other. Assumes nothing.
+use mathlib.Core.Path.{_≡_, sym, ap, _∙_}
 use mathlib.Core.List.{List}
 use Prim.Native.Nat.{ℕ, zero, suc, _+_, _*_, _/_, _%_, _≤_, _<_}
 use native.Mathlib.Decide.{ℕ-discrete}
 use native.Mathlib.Omega.{arith}
-use lib.ListN.{length, getD, set}
+use lib.ListN.{length, getD, set, replicate, length-replicate}
 use lib.Seq.{getD-set-same, set-getD, set-set}
+use Rattle.words.specs.Lists.{splice}
+use Rattle.words.proofs.SpliceLaws.{splice-length, splice-nil, splice-after}
+use Rattle.words.proofs.SameLaws.{same-more}
 use Rattle.apages.specs.Bits.{digit, putDigit, putBit, setRun}
 use Rattle.apages.proofs.BitLaws.{digit-zero, digit-full, digit-same, digit-other, digits-ext, putDigit-lt}
-use Rattle.apages.specs.Inner.{putDigits}
+use Rattle.apages.proofs.RunLaws.{run-none}
+
+-- x with its lowest k bits made v, one after the other
+unfoldable putDigits : ℕ → ℕ → ℕ → ℕ
+putDigits x zero v = x
+putDigits x (suc k) v = putDigit (putDigits x k v) k v
 
 digits-in : (x k b v : ℕ) → v < 2 → b < k → digit (putDigits x k v) b ≡ v
 unfolding putDigits
@@ -30,7 +38,7 @@ all-same (suc zero) b two h = digit-full b h
 all-same (suc (suc v)) b two h = absurd (omega arith)
 
 -- a byte with all of its bits made v
-pub whole-byte : (x v : ℕ) → v < 2 → x < 256 → 255 * v ≡ putDigits x 8 v
+whole-byte : (x v : ℕ) → v < 2 → x < 256 → 255 * v ≡ putDigits x 8 v
 whole-byte x v two h =
     digits-ext 8 (255 * v) (putDigits x 8 v) (omega arith) (digits-lt x 8 v two (omega arith) h) (λ b l. all-same v b two l ∙ sym (digits-in x 8 b v two l))
 
@@ -42,9 +50,6 @@ byte-bits p j (suc k) v h l =
     let e : (8 * j + k) / 8 ≡ j = omega arith in
     let f : (8 * j + k) % 8 ≡ k = omega arith in
     rw (byte-bits p j k v h (omega arith), e, f, getD-set-same) (set-set p j _ _)
-
-pub byte-run : (p : List ℕ) {q : List ℕ} (j v : ℕ) {x : ℕ} → j < length p → x ≡ putDigits (getD p j 0) 8 v → q ≡ set p j x → q ≡ setRun p (8 * j) 8 v
-byte-run p j v h e f = f ∙ ap (λ (y : ℕ). set p j y) e ∙ sym (byte-bits p j 8 v h (omega arith))
 
 -- a run set after another that ends where it starts
 join-runs : (p : List ℕ) (a i r v : ℕ) → setRun (setRun p a i v) (a + i) r v ≡ setRun p a (i + r) v
@@ -63,6 +68,20 @@ pub run-one : (p : List ℕ) {q : List ℕ} (n v : ℕ) → q ≡ putBit p n v �
 unfolding setRun
 run-one p n v e = let f : n ≡ n + 0 = omega arith in e ∙ ap (λ (k : ℕ). putBit p k v) f
 
+-- the bits of m bytes from byte j on: the bytes are all alike
+pub bytes-same : (p : List ℕ) → ((i : ℕ) → getD p i 0 < 256) → (j m v : ℕ) → v < 2 → j + m ≤ length p → splice p j (replicate m (255 * v)) ≡ setRun p (8 * j) (8 * m) v
+bytes-same p small j zero v two h = splice-nil p j ∙ sym (run-none p (8 * j) v)
+bytes-same p small j (suc m) v two h =
+    let q = splice p j (replicate m (255 * v)) in
+    let l : length (replicate m (255 * v)) ≡ m = length-replicate m (255 * v) in
+    let old : getD q (j + m) 0 ≡ getD p (j + m) 0 = splice-after p j (replicate m (255 * v)) (j + m) 0 (omega arith) in
+    let e : 255 * v ≡ putDigits (getD q (j + m) 0) 8 v = whole-byte (getD q (j + m) 0) v two (omega (arith, small (j + m))) in
+    let f : 8 * m + 8 ≡ 8 * suc m = omega arith in
+    let g : 8 * (j + m) ≡ 8 * j + 8 * m = omega arith in
+    sym (same-more p j m (255 * v)) ∙ ap (λ (x : ℕ). set q (j + m) x) e ∙ sym (byte-bits q (j + m) 8 v (omega (arith, splice-length p j (replicate m (255 * v)))) (omega arith))
+    ∙ ap (λ (a : ℕ). setRun q a 8 v) g ∙ ap (λ (d : List ℕ). setRun d (8 * j + 8 * m) 8 v) (bytes-same p small j m v two (omega arith)) ∙ join-runs p (8 * j) (8 * m) 8 v
+    ∙ ap (λ (k : ℕ). setRun p (8 * j) k v) f
+
 -- a byte's run starts at its first sector
-pub run-at : (p : List ℕ) {q : List ℕ} (n v : ℕ) → n % 8 ≡ 0 → q ≡ setRun p (8 * (n / 8)) 8 v → q ≡ setRun p n 8 v
-run-at p n v z e = let f : 8 * (n / 8) ≡ n = omega arith in e ∙ ap (λ (k : ℕ). setRun p k 8 v) f
+pub run-at : (p : List ℕ) {q : List ℕ} (n k v : ℕ) → n % 8 ≡ 0 → q ≡ setRun p (8 * (n / 8)) k v → q ≡ setRun p n k v
+run-at p n k v z e = let f : 8 * (n / 8) ≡ n = omega arith in e ∙ ap (λ (a : ℕ). setRun p a k v) f

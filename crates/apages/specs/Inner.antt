@@ -13,14 +13,9 @@ use Rattle.sectors.specs.Sectors.{sec, Cells}
 use Rattle.counts.specs.Geometry.{gP}
 use Rattle.counts.specs.declared.Geo.{Geo}
 use Rattle.entries.specs.declared.Run.{Run}
-use Rattle.apages.specs.Bits.{putDigit, bitAt, bitsOf}
+use Rattle.apages.specs.Bits.{bitAt, bitsOf}
 use Rattle.apages.specs.Index.{groupOf, indexIn, pairOk, mapFrom}
 use Rattle.apages.specs.Runs.{merge, findRun}
-
--- x with its lowest k bits made v, one after the other
-unfoldable pub putDigits : ℕ → ℕ → ℕ → ℕ
-putDigits x zero v = x
-putDigits x (suc k) v = putDigit (putDigits x k v) k v
 
 -- how many of two pages have the bit of sector n set: 0 where it is free in both
 unfoldable pub busyAt : List ℕ → List ℕ → ℕ → ℕ
