@@ -11,6 +11,7 @@ use Rattle.words.specs.Lists.{every, pairwise, isZero, part}
 use Rattle.words.specs.Bytes.{wordAt}
 use Rattle.words.proofs.WordLaws.{word-part}
 use Rattle.words.proofs.BoolLaws.{both}
+use Rattle.words.proofs.EveryLaws.{and-false}
 use Rattle.words.proofs.PartLaws.{drop-take}
 use Rattle.sectors.specs.Sectors.{sec}
 use Rattle.counts.specs.declared.Geo.{Geo}
@@ -23,7 +24,7 @@ use Rattle.directory.specs.Directory.{entriesOf, apart}
 use Rattle.card.specs.Inner.{RunsOk}
 use Rattle.apages.specs.Inner.{PairIn}
 use Rattle.card.proofs.ViewLaws.{passed-pair, passed-runs}
-use Rattle.card.specs.Sound.{viewOk, soundIn, shapeOk, sound}
+use Rattle.card.specs.Sound.{viewOk, countsOk, soundIn, shapeOk, sound}
 
 -- ---- shape
 
@@ -81,18 +82,56 @@ head-rest : (img : List ℕ) → drop 16 (sec img 0) ≡ take 496 (drop 16 img)
 unfolding sec part
 head-rest img = drop-take 16 496 img
 
+and-true : (a : Bool) → (a && true) ≡ a
+and-true true = refl
+and-true false = refl
+
 -- the view that takes the table as it is
 module _ (g : Geo) (img : List ℕ) (laid : LaidOut g img) {v : View} (e : v ≡ asIs g) where
   pub as-table : tableIn g v (sec img) ≡ tableOf g (sec img)
   as-table = rw e (as-is g img laid)
 
-  pub sound-here : {C N : ℕ} {a b c d : Bool} → N ≡ gN g → C ≡ wordAt img 0 → a ≡ every isZero (take 496 (drop 16 img)) → b ≡ tableOk g C (tableOf g (sec img))
-      → c ≡ viewOk g C (tableIn g v (sec img)) (sec img) → d ≡ pairwise (apart (tableIn g v (sec img)) (tableIn g v (sec img))) (entriesOf g (sec img))
-      → (leb C N && a && b && c && d) ≡ soundIn g (sec img)
-  unfolding soundIn countOf
-  sound-here {C} {N} {a} {b} {c} {d} eN e₀ e₁ e₂ e₃ e₄ =
-      let z : wordAt (sec img 0) 0 ≡ C = head-word img (omega (arith, laid .room)) ∙ sym e₀ in
-      rw (z, eN, head-rest img, e₁, e₂, e₃, e₄, as-table)
+-- the counts and the table, as code tests them
+module _ (g : Geo) (img : List ℕ) {a : Bool} (ea : a ≡ every isZero (take 496 (drop 16 img))) where
+  zeros-here : a ≡ every isZero (drop 16 (sec img 0))
+  zeros-here = ea ∙ ap (every isZero) (sym (head-rest img))
+
+  pub counts-no : not a ≡ true → false ≡ countsOk g (sec img)
+  counts-no n =
+      let z : every isZero (drop 16 (sec img 0)) ≡ false = sym zeros-here ∙ not-true a n in
+      rw (z, and-false)
+
+  pub counts-here : {C N : ℕ} {b : Bool} → not a ≡ false → C ≡ countOf (sec img) → N ≡ gN g → b ≡ tableOk g C (tableOf g (sec img)) → (leb C N && b) ≡ countsOk g (sec img)
+  counts-here n eC eN eb =
+      let z : every isZero (drop 16 (sec img 0)) ≡ true = sym zeros-here ∙ not-false a n in
+      rw (z, and-true, eb, eN, eC)
+
+pub head-count : (g : Geo) {img : List ℕ} {C : ℕ} → LaidOut g img → C ≡ wordAt img 0 → C ≡ countOf (sec img)
+unfolding countOf
+head-count g {img} laid e = e ∙ sym (head-word img (omega (arith, laid .room)))
+
+-- counts, view and names: the first that fails decides
+module _ (g : Geo) (img : List ℕ) (laid : LaidOut g img) {a : Bool} (ea : a ≡ countsOk g (sec img)) where
+  pub sound-counts : not a ≡ true → false ≡ soundIn g (sec img)
+  unfolding soundIn
+  sound-counts n = let z : countsOk g (sec img) ≡ false = sym ea ∙ not-true a n in rw z
+
+  module _ {v : View} {C : ℕ} {b : Bool} (n : not a ≡ false) (e : v ≡ asIs g) (eC : C ≡ countOf (sec img)) (eb : b ≡ viewOk g C (tableIn g v (sec img)) (sec img)) where
+    view-here : b ≡ viewOk g (countOf (sec img)) (tableOf g (sec img)) (sec img)
+    view-here = rw (← eC, ← as-table g img laid e) eb
+
+    pub sound-unseen : not b ≡ true → false ≡ soundIn g (sec img)
+    unfolding soundIn
+    sound-unseen m =
+        let z : viewOk g (countOf (sec img)) (tableOf g (sec img)) (sec img) ≡ false = sym view-here ∙ not-true b m in
+        rw (z, and-false)
+
+    pub sound-names : {d : Bool} → not b ≡ false → d ≡ pairwise (apart (tableIn g v (sec img)) (tableIn g v (sec img))) (entriesOf g (sec img)) → d ≡ soundIn g (sec img)
+    unfolding soundIn
+    sound-names m ed =
+        let z : countsOk g (sec img) ≡ true = sym ea ∙ not-false a n in
+        let w : viewOk g (countOf (sec img)) (tableOf g (sec img)) (sec img) ≡ true = sym view-here ∙ not-false b m in
+        rw (z, w, ← as-table g img laid e) ed
 
 pub sound-of : (img : List ℕ) (g : Geo) {r : Bool} → g ≡ geoOf (sec img) → r ≡ soundIn g (sec img) → r ≡ sound img
 unfolding sound

@@ -21,11 +21,13 @@ viewOk g bound tab k =
     indexOk g bound tab (indexIn g k)
     && (every (entryOk g bound tab) (entriesOf g k) && pageOk g (cover (filesOf tab (entriesOf g k))) (pageIn g tab k))
 
--- "C is at most N"; "the rest 0"; the table; stamps, A and B, shown versions, names and bits; "no two alike"
+-- "C is at most N"; "the rest 0"; the table
+abbrev pub countsOk : Geo → Cells → Bool
+countsOk g k = leb (countOf k) (gN g) && every isZero (drop 16 (k 0)) && tableOk g (countOf k) (tableOf g k)
+
+-- the counts; stamps, A and B, shown versions, names and bits; "no two alike"
 unfoldable pub soundIn : Geo → Cells → Bool
-soundIn g k =
-    leb (countOf k) (gN g) && every isZero (drop 16 (k 0)) && tableOk g (countOf k) (tableOf g k) && viewOk g (countOf k) (tableOf g k) k
-    && pairwise (apart (tableOf g k) (tableOf g k)) (entriesOf g k)
+soundIn g k = countsOk g k && viewOk g (countOf k) (tableOf g k) k && pairwise (apart (tableOf g k) (tableOf g k)) (entriesOf g k)
 
 -- the opposite of number 1: "geometry outside the limits, an image not of 512·S bytes for the S .. stored, or too short to store one"
 unfoldable pub shapeOk : List ℕ → Bool

@@ -2,9 +2,10 @@
 ghost use mathlib.Core.Path.{_≡_};
 ghost use mathlib.Core.Bool.{true};
 ghost use Rattle.sectors.specs.Sectors.{sec};
+ghost use Rattle.counts.specs.Geometry.{countOf};
 ghost use Rattle.counts.specs.Stamps.{tableIn};
 ghost use Rattle.counts.specs.Inner.{LaidOut};
-ghost use Rattle.card.specs.Sound.{viewOk, soundIn, shapeOk, sound};
+ghost use Rattle.card.specs.Sound.{viewOk, countsOk, soundIn, shapeOk, sound};
 use counts::CrashCount;
 use counts::Geo;
 use counts::View;
@@ -27,20 +28,37 @@ pub fn view_ok(card: &[u8], g: Geo, v: View, bound: CrashCount, scratch: &mut [u
     card_tally::pages_ok(card, g, v, scratch)
 }
 
+// Whether C is at most N, the rest of sector 0 is zeros and the table's words are in order.
+fn counts_ok(card: &[u8], g: Geo, c: CrashCount) -> bool
+    requires { ⌜ LaidOut g (now card) × (c .0 ≡ countOf (sec (now card))) ⌝ }
+    ensures { λ r. ⌜ r ≡ countsOk g (sec (now (card .entry))) ⌝ }
+{
+    let rest = words::zeros(&card[16..512]);
+    if !rest {
+        return false;
+    }
+    let n = counts::crash_counts(g);
+    let table = counts_table::table_ok(card, g, c);
+    (c.0 <= n) & table
+}
+
 // Whether an image is sound by a geometry.
 fn sound_in(card: &[u8], g: Geo) -> bool
     requires { ⌜ LaidOut g (now card) ⌝ }
     ensures { λ r. ⌜ r ≡ soundIn g (sec (now (card .entry))) ⌝ }
 {
     let c = CrashCount(words::word_at(card, 0));
-    let rest = words::zeros(&card[16..512]);
+    let counts = counts_ok(card, g, c);
+    if !counts {
+        return false;
+    }
     let v = counts::as_is(g);
-    let table = counts_table::table_ok(card, g, c);
     let mut scratch = [0u8; 128];
     let view = view_ok(card, g, v, c, &mut scratch);
-    let names = directory_rules::names_ok(card, g, v, v, &mut scratch);
-    let n = counts::crash_counts(g);
-    (c.0 <= n) & rest & table & view & names
+    if !view {
+        return false;
+    }
+    directory_rules::names_ok(card, g, v, v, &mut scratch)
 }
 
 // Whether an image stores a geometry inside the limits and has 512·S bytes for its S.

@@ -43,11 +43,18 @@ regroup true true false d e f g h i = refl
 regroup true false c d e f g h i = refl
 regroup false b c d e f g h i = refl
 
--- the counts and the table: one test after the other, as code makes them
-pub table-here : (s : Opened) (k : Cells) {h w m z : Bool} → h ≡ headOk s k → w ≡ wordOk (s .worn) (s .t .0) (getD (tableOf (s .geo) k) (s .c .0) 0)
-    → m ≡ every wordMax (tableOf (s .geo) k) → z ≡ every isZero (drop (s .c .0 + 1) (tableOf (s .geo) k)) → (h && w && m && z) ≡ tableFits s k
-unfolding tableFits
-table-here s k {h} {w} {m} {z} eh ew em ez = and-assoc (h && w) m z ∙ rw (eh, ew, em, ez)
+-- the counts and the table: sector 0 first, then one test after the other, as code makes them
+module _ (s : Opened) (k : Cells) {h : Bool} (eh : h ≡ headOk s k) where
+  pub table-no : not h ≡ true → false ≡ tableFits s k
+  unfolding tableFits
+  table-no n = let q : headOk s k ≡ false = sym eh ∙ not-true h n in rw q
+
+  pub table-here : {w m z : Bool} → not h ≡ false → w ≡ wordOk (s .worn) (s .t .0) (getD (tableOf (s .geo) k) (s .c .0) 0) → m ≡ every wordMax (tableOf (s .geo) k)
+      → z ≡ every isZero (drop (s .c .0 + 1) (tableOf (s .geo) k)) → (w && m && z) ≡ tableFits s k
+  unfolding tableFits
+  table-here {w} {m} {z} n ew em ez =
+      let q : headOk s k ≡ true = sym eh ∙ not-false h n in
+      and-assoc w m z ∙ rw (q, ew, em, ez)
 
 -- the text of the paragraph, one clause after the other
 pub fits-text : (s : Opened) (k : Cells) → (headOk s k && wordOk (s .worn) (s .t .0) (getD (tableOf (s .geo) k) (s .c .0) 0) && every wordMax (tableOf (s .geo) k)
@@ -117,7 +124,17 @@ fits-laid s work {r} e n =
     let d = both (geoOk (s .geo)) (ltb (s .c .0) (gN (s .geo))) c .0 in
     ok-laid (s .geo) work d (eqb-true _ _ l)
 
-pub fits-yes : (s : Opened) (work : List ℕ) {r a b c : Bool} → r ≡ sizesOk s work → not r ≡ false → a ≡ tableFits s (sec work) → b ≡ viewsFit s (sec work)
-    → c ≡ stampsFit s (sec work) → (a && b && c) ≡ fits s work
-unfolding fits fitsIn
-fits-yes s work {r} e n ea eb ec = rw (sym e ∙ not-false r n, ea, eb, ec)
+-- then counts and table, the views, the stamps: the first that fails decides
+module _ (s : Opened) (work : List ℕ) {r a : Bool} (e : r ≡ sizesOk s work) (n : not r ≡ false) (ea : a ≡ tableFits s (sec work)) where
+  pub fits-table : not a ≡ true → false ≡ fits s work
+  unfolding fits fitsIn
+  fits-table m = rw (sym e ∙ not-false r n, sym ea ∙ not-true a m)
+
+  module _ {b : Bool} (m : not a ≡ false) (eb : b ≡ viewsFit s (sec work)) where
+    pub fits-views : not b ≡ true → false ≡ fits s work
+    unfolding fits fitsIn
+    fits-views o = rw (sym e ∙ not-false r n, sym ea ∙ not-false a m, sym eb ∙ not-true b o)
+
+    pub fits-stamps : {c : Bool} → not b ≡ false → c ≡ stampsFit s (sec work) → c ≡ fits s work
+    unfolding fits fitsIn
+    fits-stamps o ec = rw (sym e ∙ not-false r n, sym ea ∙ not-false a m, sym eb ∙ not-false b o) ec

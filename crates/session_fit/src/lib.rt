@@ -15,10 +15,13 @@ fn table_fits(s: Opened, work: &[u8]) -> bool
     let c = s.c;
     let t = s.t;
     let head = session_agree::head_ok(s, work);
+    if !head {
+        return false;
+    }
     let word = session_agree::word_ok(s.worn, t, counts::table_word(work, g, c));
     let past = counts_table::zero_past(work, g, c);
     let max = counts_table::table_max(work, g, c, past);
-    head & word & max & past
+    word & max & past
 }
 
 // Whether both views pass, and no name is present in either view of two entries.
@@ -57,5 +60,13 @@ pub fn fits(s: Opened, work: &[u8]) -> bool
     if !sizes {
         return false;
     }
-    table_fits(s, work) & views_fit(s, work) & stamps_fit(s, work)
+    let table = table_fits(s, work);
+    if !table {
+        return false;
+    }
+    let views = views_fit(s, work);
+    if !views {
+        return false;
+    }
+    stamps_fit(s, work)
 }
