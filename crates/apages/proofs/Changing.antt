@@ -12,7 +12,7 @@ use Rattle.sectors.specs.Sectors.{sec}
 use Rattle.sectors.proofs.FlatLaws.{sec-in}
 use Rattle.counts.specs.declared.Geo.{Geo}
 use Rattle.counts.specs.declared.Stamp.{Stamp}
-use Rattle.counts.specs.Geometry.{gN, gP}
+use Rattle.counts.specs.Geometry.{gN, gP, firstPage, pairLow, pairHigh}
 use Rattle.counts.proofs.GeoLaws.{Limits}
 use Rattle.counts.specs.Stamps.{maxTx, standing}
 use Rattle.entries.specs.declared.Run.{Run}
@@ -65,7 +65,7 @@ module _ (g : Geo) (L : Limits g) (tab : List ℕ) (own : Stamp) (cN : own .cc .
     unfolding pageAt
     page = rw was (paired-wide g L own img present P p small)
 
-    span : (g .t + 2 + 2 * p ≤ next .a .0) × (next .a .0 ≤ g .t + 3 + 2 * p)
+    span : (pairLow g p ≤ next .a .0) × (next .a .0 ≤ pairHigh g p)
     span = between g p small tab own hc hw x (P .stamps p small) (P .pair p small)
 
     off : next .a .0 ≢ g .t + 1
@@ -81,7 +81,7 @@ module _ (g : Geo) (L : Limits g) (tab : List ℕ) (own : Stamp) (cN : own .cc .
     run-other = bits-other g present own a n v img ix refl wide page
 
     -- a page of the index that is not A after the change
-    page-other : (i : ℕ) → g .t + 2 ≤ i → i ≢ next .a .0 → sec after i ≡ sec img i
+    page-other : (i : ℕ) → firstPage g ≤ i → i ≢ next .a .0 → sec after i ≡ sec img i
     page-other i l o = run-other i (λ e. omega (arith, e)) o
 
     here : groupOf (indexIn g (sec after)) p ≡ groupBytes next
@@ -117,7 +117,7 @@ module _ (g : Geo) (L : Limits g) (tab : List ℕ) (own : Stamp) (cN : own .cc .
     cut-at q l (yes e) = rw e (λ z. hidden g p small tab own hc hw x (P .stamps p small) (P .pair p small) (sym z))
     cut-at q l (no o) = pages-apart q tab l o
 
-    low : (q : ℕ) (t : List ℕ) → q < gP g → g .t + 2 ≤ shownPage t (groupOf ix q)
+    low : (q : ℕ) (t : List ℕ) → q < gP g → firstPage g ≤ shownPage t (groupOf ix q)
     low q t l = let r = shown-range g q t (groupOf ix q) (P .pair q l) in omega (arith, r .0)
 
     page-there : (q : ℕ) → q < gP g → q ≢ p → pageAt g present (sec after) q ≡ pageAt g present (sec img) q
@@ -146,8 +146,8 @@ module _ (g : Geo) (L : Limits g) (tab : List ℕ) (own : Stamp) (cN : own .cc .
               let z : q ≢ p = (λ e. o (omega arith, e)) in
               record {
                 group = there q z;
-                first = page-other (g .t + 2 + 2 * q) (omega arith) (λ e. omega (arith, span .0, span .1));
-                second = page-other (g .t + 3 + 2 * q) (omega arith) (λ e. omega (arith, span .0, span .1));
+                first = page-other (pairLow g q) (omega arith) (λ e. omega (arith, span .0, span .1));
+                second = page-other (pairHigh g q) (omega arith) (λ e. omega (arith, span .0, span .1));
               };
           map =
               let e : 4096 * p + a % 4096 ≡ a = omega arith in

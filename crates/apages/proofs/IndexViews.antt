@@ -12,7 +12,7 @@ use Rattle.counts.specs.declared.Geo.{Geo}
 use Rattle.counts.specs.declared.Stamp.{Stamp}
 use Rattle.counts.specs.declared.Standing.{Standing}
 use Rattle.counts.specs.declared.Standing.the-variants.{Alive, Dead}
-use Rattle.counts.specs.Geometry.{gN, gP}
+use Rattle.counts.specs.Geometry.{gN, gP, pairLow, pairHigh}
 use Rattle.counts.proofs.GeoLaws.{Limits}
 use Rattle.counts.specs.Stamps.{maxTx, stampOf, alive, showing, sameStamp, standing}
 use Rattle.counts.proofs.StampLaws.{same-true, own-dead, own-alive, others, now-new, cut-old}
@@ -115,10 +115,10 @@ module _ (g : Geo) (p : ℕ) (small : p < gP g) (tab : List ℕ) (own : Stamp) (
       go same = pair
       go swap = pair-swap g p (wordAt ix 8) (wordAt ix 12) pair
 
-  pub between : (g .t + 2 + 2 * p ≤ next .a .0) × (next .a .0 ≤ g .t + 3 + 2 * p)
+  pub between : (pairLow g p ≤ next .a .0) × (next .a .0 ≤ pairHigh g p)
   between = ⊎-elim (λ q. (omega (arith, q .0), omega (arith, q .0))) (λ q. (omega (arith, q .0), omega (arith, q .0))) (pair-values g p _ _ pair-ab)
 
-  pub betweenB : (g .t + 2 + 2 * p ≤ next .b .0) × (next .b .0 ≤ g .t + 3 + 2 * p)
+  pub betweenB : (pairLow g p ≤ next .b .0) × (next .b .0 ≤ pairHigh g p)
   betweenB = ⊎-elim (λ q. (omega (arith, q .1), omega (arith, q .1))) (λ q. (omega (arith, q .1), omega (arith, q .1))) (pair-values g p _ _ pair-ab)
 
   cut-b : next .b .0 ≡ shownPage tab ix

@@ -16,7 +16,7 @@ use Rattle.counts.specs.declared.Geo.{Geo}
 use Rattle.counts.specs.declared.Stamp.{Stamp}
 use Rattle.counts.specs.declared.Standing.{Standing}
 use Rattle.counts.specs.declared.Standing.the-variants.{Own, Alive, Dead}
-use Rattle.counts.specs.Geometry.{gN, gP}
+use Rattle.counts.specs.Geometry.{gN, gP, pairLow, pairHigh}
 use Rattle.counts.proofs.GeoLaws.{Limits}
 use Rattle.counts.specs.Stamps.{maxTx, sameStamp, standing}
 use Rattle.apages.specs.declared.Index.{Index}
@@ -69,7 +69,7 @@ module _ (g : Geo) (L : Limits g) (tab : List ℕ) (own : Stamp) (cN : own .cc .
   unfolding pageAt
   page = rw (before-shown g (a / 4096) small tab own hc hw x (P .stamps (a / 4096) small) (P .pair (a / 4096) small)) (paired-wide g L own img present P (a / 4096) small)
 
-  span : (g .t + 2 + 2 * (a / 4096) ≤ y .a .0) × (y .a .0 ≤ g .t + 3 + 2 * (a / 4096))
+  span : (pairLow g (a / 4096) ≤ y .a .0) × (y .a .0 ≤ pairHigh g (a / 4096))
   span = between g (a / 4096) small tab own hc hw x (P .stamps (a / 4096) small) (P .pair (a / 4096) small)
 
   off : y .a .0 ≢ g .t + 1

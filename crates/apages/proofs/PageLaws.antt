@@ -15,6 +15,7 @@ use Rattle.counts.specs.declared.Geo.{Geo}
 use Rattle.counts.specs.declared.Stamp.{Stamp}
 use Rattle.counts.specs.declared.Standing.{Standing}
 use Rattle.counts.specs.declared.Standing.the-variants.{Own, Alive, Dead}
+use Rattle.counts.specs.Geometry.{pairLow, pairHigh}
 use Rattle.apages.specs.declared.Index.{Index}
 use Rattle.apages.specs.Index.{pairOk, changedIndex, pageBefore}
 use Rattle.apages.specs.Inner.{IsPage}
@@ -23,15 +24,15 @@ pub pair-pages : (g : Geo) (p a b : ℕ) → pairOk g p a b ≡ true → IsPage 
 unfolding pairOk
 pair-pages g p a b h =
     ⊎-elim
-    (λ u. let w = both (eqb a (g .t + 2 + 2 * p)) (eqb b (g .t + 3 + 2 * p)) u in
-    let x : a ≡ g .t + 2 + 2 * p = eqb-true _ _ (w .0) in
-    let y : b ≡ g .t + 3 + 2 * p = eqb-true _ _ (w .1) in
+    (λ u. let w = both (eqb a (pairLow g p)) (eqb b (pairHigh g p)) u in
+    let x : a ≡ pairLow g p = eqb-true _ _ (w .0) in
+    let y : b ≡ pairHigh g p = eqb-true _ _ (w .1) in
     ((omega arith, omega arith), (omega arith, omega arith)))
-    (λ u. let w = both (eqb a (g .t + 3 + 2 * p)) (eqb b (g .t + 2 + 2 * p)) u in
-    let x : a ≡ g .t + 3 + 2 * p = eqb-true _ _ (w .0) in
-    let y : b ≡ g .t + 2 + 2 * p = eqb-true _ _ (w .1) in
+    (λ u. let w = both (eqb a (pairHigh g p)) (eqb b (pairLow g p)) u in
+    let x : a ≡ pairHigh g p = eqb-true _ _ (w .0) in
+    let y : b ≡ pairLow g p = eqb-true _ _ (w .1) in
     ((omega arith, omega arith), (omega arith, omega arith)))
-    (or-cases (eqb a (g .t + 2 + 2 * p) && eqb b (g .t + 3 + 2 * p)) (eqb a (g .t + 3 + 2 * p) && eqb b (g .t + 2 + 2 * p)) h)
+    (or-cases (eqb a (pairLow g p) && eqb b (pairHigh g p)) (eqb a (pairHigh g p) && eqb b (pairLow g p)) h)
 
 -- the changed index names two pages where the index did
 pub changed-pages : (g : Geo) (p : ℕ) (st : Standing) (own : Stamp) (x : Index) → IsPage g p (x .a .0) × IsPage g p (x .b .0)

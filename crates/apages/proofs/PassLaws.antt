@@ -6,7 +6,7 @@ use mathlib.Core.List.{List}
 use Prim.Native.Nat.{ℕ, zero, suc, _+_, _*_, _≤_, _<_}
 use native.Mathlib.Omega.{arith}
 use native.Mathlib.Decide.{ℕ-discrete}
-use Rattle.counts.specs.Geometry.{gP, gDir}
+use Rattle.counts.specs.Geometry.{gP, gDir, firstPage, pairLow, pairHigh}
 use Rattle.counts.proofs.TableLaws.{dir-is}
 use borrow.Author.Tests.{eqb-true, eq-eqb}
 use lib.Dec.{eqb}
@@ -20,19 +20,19 @@ use Rattle.apages.specs.Index.{groupOf, pairOk, groupOk, everyGroup, ind
 
 -- A and B are the two of pair p, in either order
 abbrev pub Pair : Geo → ℕ → ℕ → ℕ → Type 0
-Pair g p a b = ((a ≡ g .t + 2 + 2 * p) × (b ≡ g .t + 3 + 2 * p)) ⊎ ((a ≡ g .t + 3 + 2 * p) × (b ≡ g .t + 2 + 2 * p))
+Pair g p a b = ((a ≡ pairLow g p) × (b ≡ pairHigh g p)) ⊎ ((a ≡ pairHigh g p) × (b ≡ pairLow g p))
 
 pub pair-values : (g : Geo) (p a b : ℕ) → pairOk g p a b ≡ true → Pair g p a b
 unfolding pairOk
 pair-values g p a b h =
-    ⊎-elim (λ q. let (x, y) = both (eqb a (g .t + 2 + 2 * p)) _ q in inl (eqb-true _ _ x, eqb-true _ _ y))
-    (λ q. let (x, y) = both (eqb a (g .t + 3 + 2 * p)) _ q in inr (eqb-true _ _ x, eqb-true _ _ y))
-    (or-cases (eqb a (g .t + 2 + 2 * p) && eqb b (g .t + 3 + 2 * p)) _ h)
+    ⊎-elim (λ q. let (x, y) = both (eqb a (pairLow g p)) _ q in inl (eqb-true _ _ x, eqb-true _ _ y))
+    (λ q. let (x, y) = both (eqb a (pairHigh g p)) _ q in inr (eqb-true _ _ x, eqb-true _ _ y))
+    (or-cases (eqb a (pairLow g p) && eqb b (pairHigh g p)) _ h)
 
 pub pair-intro : (g : Geo) (p a b : ℕ) → Pair g p a b → pairOk g p a b ≡ true
 unfolding pairOk
-pair-intro g p a b (inl q) = or-intro (eqb a (g .t + 2 + 2 * p) && eqb b (g .t + 3 + 2 * p)) _ (inl (join _ _ (eq-eqb _ _ (q .0)) (eq-eqb _ _ (q .1))))
-pair-intro g p a b (inr q) = or-intro (eqb a (g .t + 2 + 2 * p) && eqb b (g .t + 3 + 2 * p)) _ (inr (join _ _ (eq-eqb _ _ (q .0)) (eq-eqb _ _ (q .1))))
+pair-intro g p a b (inl q) = or-intro (eqb a (pairLow g p) && eqb b (pairHigh g p)) _ (inl (join _ _ (eq-eqb _ _ (q .0)) (eq-eqb _ _ (q .1))))
+pair-intro g p a b (inr q) = or-intro (eqb a (pairLow g p) && eqb b (pairHigh g p)) _ (inr (join _ _ (eq-eqb _ _ (q .0)) (eq-eqb _ _ (q .1))))
 
 pub pair-swap : (g : Geo) (p a b : ℕ) → pairOk g p a b ≡ true → pairOk g p b a ≡ true
 pair-swap g p a b h = pair-intro g p b a (⊎-elim (λ q. inr (q .1, q .0)) (λ q. inl (q .1, q .0)) (pair-values g p a b h))
@@ -102,20 +102,20 @@ unfolding indexOk
 index-intro g bound tab ix P = join _ _ (groups-intro (groupOk g bound tab) ix (gP g) (λ p l. group-intro g bound tab p (groupOf ix p) (P .groups p l))) (P .zeros)
 
 -- the page shown is one of pair p
-pub shown-page : (g : Geo) (p : ℕ) (tab x : List ℕ) → pairOk g p (wordAt x 8) (wordAt x 12) ≡ true → (shownPage tab x ≡ g .t + 2 + 2 * p) ⊎ (shownPage tab x ≡ g .t + 3 + 2 * p)
+pub shown-page : (g : Geo) (p : ℕ) (tab x : List ℕ) → pairOk g p (wordAt x 8) (wordAt x 12) ≡ true → (shownPage tab x ≡ pairLow g p) ⊎ (shownPage tab x ≡ pairHigh g p)
 unfolding shownPage showing
 shown-page g p tab x h = go (alive tab (stampOf x)) (pair-values g p _ _ h)
   where
-    go : (b : Bool) → Pair g p (wordAt x 8) (wordAt x 12) → (cond b (wordAt x 8) (wordAt x 12) ≡ g .t + 2 + 2 * p) ⊎ (cond b (wordAt x 8) (wordAt x 12) ≡ g .t + 3 + 2 * p)
+    go : (b : Bool) → Pair g p (wordAt x 8) (wordAt x 12) → (cond b (wordAt x 8) (wordAt x 12) ≡ pairLow g p) ⊎ (cond b (wordAt x 8) (wordAt x 12) ≡ pairHigh g p)
     go true (inl q) = inl (q .0)
     go true (inr q) = inr (q .0)
     go false (inl q) = inr (q .1)
     go false (inr q) = inl (q .1)
 
 -- by its bounds
-pub shown-range : (g : Geo) (p : ℕ) (tab x : List ℕ) → pairOk g p (wordAt x 8) (wordAt x 12) ≡ true → (g .t + 2 + 2 * p ≤ shownPage tab x) × (shownPage tab x ≤ g .t + 3 + 2 * p)
+pub shown-range : (g : Geo) (p : ℕ) (tab x : List ℕ) → pairOk g p (wordAt x 8) (wordAt x 12) ≡ true → (pairLow g p ≤ shownPage tab x) × (shownPage tab x ≤ pairHigh g p)
 shown-range g p tab x h = ⊎-elim (λ q. (omega (arith, q), omega (arith, q))) (λ q. (omega (arith, q), omega (arith, q))) (shown-page g p tab x h)
 
 -- and it lies before the directory
-pub shown-before : (g : Geo) (p : ℕ) (tab x : List ℕ) → p < gP g → pairOk g p (wordAt x 8) (wordAt x 12) ≡ true → (g .t + 2 ≤ shownPage tab x) × (shownPage tab x < gDir g)
+pub shown-before : (g : Geo) (p : ℕ) (tab x : List ℕ) → p < gP g → pairOk g p (wordAt x 8) (wordAt x 12) ≡ true → (firstPage g ≤ shownPage tab x) × (shownPage tab x < gDir g)
 shown-before g p tab x l h = let r = shown-range g p tab x h in (omega (arith, r .0), omega (arith, r .1, dir-is g))

@@ -11,7 +11,7 @@ use Rattle.sectors.specs.Sectors.{sec}
 use Rattle.sectors.proofs.FlatLaws.{sec-in}
 use Rattle.counts.specs.declared.Geo.{Geo}
 use Rattle.counts.specs.declared.Stamp.{Stamp}
-use Rattle.counts.specs.Geometry.{gP, gDir}
+use Rattle.counts.specs.Geometry.{gP, gDir, firstPage}
 use Rattle.counts.proofs.GeoLaws.{Limits}
 use Rattle.counts.specs.Stamps.{stampOf}
 use Rattle.apages.specs.Index.{groupOf, indexIn, pairOk, shownPage, pageAt, pageIn}
@@ -35,7 +35,7 @@ pub record Remapped (g : Geo) (tab : List ℕ) (own : Stamp) (f : List ℕ → L
   -- the pages that the cut view shows stay
   pub cut : (p : ℕ) → p < gP g → sec img′ (shownPage tab (groupOf (indexIn g (sec img)) p)) ≡ sec img (shownPage tab (groupOf (indexIn g (sec img)) p))
   -- and so does every sector but the index and the pages
-  pub other : (i : ℕ) → i ≢ g .t + 1 → ¬ ((g .t + 2 ≤ i) × (i < gDir g)) → sec img′ i ≡ sec img i
+  pub other : (i : ℕ) → i ≢ g .t + 1 → ¬ ((firstPage g ≤ i) × (i < gDir g)) → sec img′ i ≡ sec img i
   -- "only where a bit changes": every other pair stays
   pub pairs : (q : ℕ) → q < gP g → ¬ on q → PairSame g img img′ q
   pub map : pageIn g (set tab (own .cc .0) (own .txc .0)) (sec img′) ≡ f (pageIn g (set tab (own .cc .0) (own .txc .0)) (sec img))

@@ -10,7 +10,7 @@ use Rattle.words.specs.declared.Found.the-variants.{At, Nowhere}
 use Rattle.words.specs.Lists.{isZero}
 use Rattle.words.specs.Bytes.{wordAt}
 use Rattle.sectors.specs.Sectors.{sec, Cells}
-use Rattle.counts.specs.Geometry.{gP}
+use Rattle.counts.specs.Geometry.{gP, pairLow, pairHigh}
 use Rattle.counts.specs.declared.Geo.{Geo}
 use Rattle.entries.specs.declared.Run.{Run}
 use Rattle.apages.specs.Bits.{bitAt, bitsOf}
@@ -45,7 +45,7 @@ PairIn g img = (p : ℕ) → p < gP g → pairOk g p (wordAt (groupOf (indexIn g
 
 -- a sector that is one of pair p
 abbrev pub IsPage : Geo → ℕ → ℕ → Type 0
-IsPage g p a = (g .t + 2 + 2 * p ≤ a) × (a ≤ g .t + 3 + 2 * p)
+IsPage g p a = (pairLow g p ≤ a) × (a ≤ pairHigh g p)
 
 -- the sectors of a run, if any, lie in one page of the map
 abbrev pub InOnePage : Geo → Run → Type 0
@@ -54,8 +54,8 @@ InOnePage g r = (r .start .0 % 4096 + r .sectors ≤ 4096) × (0 < r .sectors �
 -- pair q is as it was, to the byte: its group, and both of its pages
 pub record PairSame (g : Geo) (img img′ : List ℕ) (q : ℕ) : Type 0 where
   pub group : groupOf (indexIn g (sec img′)) q ≡ groupOf (indexIn g (sec img)) q
-  pub first : sec img′ (g .t + 2 + 2 * q) ≡ sec img (g .t + 2 + 2 * q)
-  pub second : sec img′ (g .t + 3 + 2 * q) ≡ sec img (g .t + 3 + 2 * q)
+  pub first : sec img′ (pairLow g q) ≡ sec img (pairLow g q)
+  pub second : sec img′ (pairHigh g q) ≡ sec img (pairHigh g q)
 
 -- the bytes of a group, as code lends them: 16 of them from 512 (T + 1) + 16p on
 abbrev pub groupAt : Geo → ℕ → ℕ

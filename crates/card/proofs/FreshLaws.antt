@@ -15,7 +15,7 @@ use Rattle.words.proofs.EveryMore.{every-drop, zero-at, every-replicate, pairwi
 use Rattle.words.proofs.FourWords.{four-first, four-second, four-third, four-fourth, four-rest}
 use Rattle.sectors.specs.Sectors.{Cells, sec}
 use Rattle.counts.specs.declared.Geo.{Geo}
-use Rattle.counts.specs.Geometry.{gN, gP, geoOk, geoOf, countOf, tableOf}
+use Rattle.counts.specs.Geometry.{gN, gP, geoOk, geoOf, countOf, tableOf, pairLow, pairHigh}
 use Rattle.counts.specs.Stamps.{maxTx, stampOf, showing, tableOk}
 use Rattle.entries.specs.Entries.{entryOk}
 use Rattle.directory.specs.Directory.{entriesOf, apart}
@@ -87,11 +87,11 @@ module _ (g : Geo) (ok : geoOk g ≡ true) where
   unfolding indexOf freshGroup
   group-stamp p h = ap (λ (x : Index). x .stamp) (group-read p h)
 
-  group-a : (p : ℕ) → p < gP g → wordAt (groupOf (indexIn g k) p) 8 ≡ g .t + 2 + 2 * p
+  group-a : (p : ℕ) → p < gP g → wordAt (groupOf (indexIn g k) p) 8 ≡ pairLow g p
   unfolding indexOf freshGroup
   group-a p h = ap (λ (x : Index). x .a .0) (group-read p h)
 
-  group-b : (p : ℕ) → p < gP g → wordAt (groupOf (indexIn g k) p) 12 ≡ g .t + 3 + 2 * p
+  group-b : (p : ℕ) → p < gP g → wordAt (groupOf (indexIn g k) p) 12 ≡ pairHigh g p
   unfolding indexOf freshGroup
   group-b p h = ap (λ (x : Index). x .b .0) (group-read p h)
 

@@ -15,7 +15,7 @@ use Rattle.words.proofs.EveryMore.{every-append, zeros-zero}
 use Rattle.sectors.specs.Sectors.{Cells, sec, setSec}
 use Rattle.sectors.proofs.SectorLaws.{setSec-length, sec-same, sec-other}
 use Rattle.counts.specs.declared.Geo.{Geo}
-use Rattle.counts.specs.Geometry.{gP, gDir, geoOk, tableFrom, tableOf}
+use Rattle.counts.specs.Geometry.{gP, gDir, geoOk, tableFrom, tableOf, firstPage, pairLow, pairHigh}
 use Rattle.directory.specs.Directory.{entriesFrom, entriesOf}
 use Rattle.apages.specs.Runs.{freshPage}
 use Rattle.apages.specs.Index.{groupBytes, groupOf}
@@ -73,36 +73,36 @@ module _ (g : Geo) where
   pages-length : (n p : ℕ) (img : List ℕ) → length (freshPages g p n img) ≡ length img
   unfolding freshPages
   pages-length zero p img = refl
-  pages-length (suc n) p img = pages-length n (suc p) _ ∙ setSec-length _ (g .t + 3 + 2 * p) (freshPage g p) ∙ setSec-length img (g .t + 2 + 2 * p) (freshPage g p)
+  pages-length (suc n) p img = pages-length n (suc p) _ ∙ setSec-length _ (pairHigh g p) (freshPage g p) ∙ setSec-length img (pairLow g p) (freshPage g p)
 
-  pages-other : (n p : ℕ) (img : List ℕ) (i : ℕ) → ¬ ((g .t + 2 + 2 * p ≤ i) × (i < g .t + 2 + 2 * (p + n))) → sec (freshPages g p n img) i ≡ sec img i
+  pages-other : (n p : ℕ) (img : List ℕ) (i : ℕ) → ¬ ((pairLow g p ≤ i) × (i < pairLow g (p + n))) → sec (freshPages g p n img) i ≡ sec img i
   unfolding freshPages
   pages-other zero p img i o = refl
   pages-other (suc n) p img i o =
       pages-other n (suc p) _ i (λ q. o (omega (arith, q .0), omega (arith, q .1)))
-      ∙ sec-other _ (g .t + 3 + 2 * p) (freshPage g p) (page-length g p) i (λ e. o (omega arith, omega arith))
-      ∙ sec-other img (g .t + 2 + 2 * p) (freshPage g p) (page-length g p) i (λ e. o (omega arith, omega arith))
+      ∙ sec-other _ (pairHigh g p) (freshPage g p) (page-length g p) i (λ e. o (omega arith, omega arith))
+      ∙ sec-other img (pairLow g p) (freshPage g p) (page-length g p) i (λ e. o (omega arith, omega arith))
 
-  pages-at : (n p : ℕ) (img : List ℕ) (q : ℕ) → p ≤ q → q < p + n → 512 * (g .t + 2 + 2 * (p + n)) ≤ length img → sec (freshPages g p n img) (g .t + 2 + 2 * q) ≡ freshPage g q
+  pages-at : (n p : ℕ) (img : List ℕ) (q : ℕ) → p ≤ q → q < p + n → 512 * pairLow g (p + n) ≤ length img → sec (freshPages g p n img) (pairLow g q) ≡ freshPage g q
   unfolding freshPages
   pages-at zero p img q lo hi l = absurd (omega arith)
   pages-at (suc n) p img q lo hi l = go (ℕ-discrete q p) (λ z. pages-at n (suc p) two q z (omega arith) (omega (arith, two-length)))
     where
       one : List ℕ
-      one = setSec img (g .t + 2 + 2 * p) (freshPage g p)
+      one = setSec img (pairLow g p) (freshPage g p)
 
       two : List ℕ
-      two = setSec one (g .t + 3 + 2 * p) (freshPage g p)
+      two = setSec one (pairHigh g p) (freshPage g p)
 
       two-length : length two ≡ length img
-      two-length = setSec-length one (g .t + 3 + 2 * p) (freshPage g p) ∙ setSec-length img (g .t + 2 + 2 * p) (freshPage g p)
+      two-length = setSec-length one (pairHigh g p) (freshPage g p) ∙ setSec-length img (pairLow g p) (freshPage g p)
 
-      go : Dec (q ≡ p) → (suc p ≤ q → sec (freshPages g (suc p) n two) (g .t + 2 + 2 * q) ≡ freshPage g q) → sec (freshPages g (suc p) n two) (g .t + 2 + 2 * q) ≡ freshPage g q
+      go : Dec (q ≡ p) → (suc p ≤ q → sec (freshPages g (suc p) n two) (pairLow g q) ≡ freshPage g q) → sec (freshPages g (suc p) n two) (pairLow g q) ≡ freshPage g q
       go (yes e) ih =
           rw e
-          (pages-other n (suc p) two (g .t + 2 + 2 * p) (λ z. omega (arith, z .0))
-          ∙ sec-other one (g .t + 3 + 2 * p) (freshPage g p) (page-length g p) (g .t + 2 + 2 * p) (λ z. omega arith)
-          ∙ sec-same img (g .t + 2 + 2 * p) (freshPage g p) (page-length g p) (omega arith))
+          (pages-other n (suc p) two (pairLow g p) (λ z. omega (arith, z .0))
+          ∙ sec-other one (pairHigh g p) (freshPage g p) (page-length g p) (pairLow g p) (λ z. omega arith)
+          ∙ sec-same img (pairLow g p) (freshPage g p) (page-length g p) (omega arith))
       go (no o) ih = ih (omega arith)
 
 -- ---- the sectors
@@ -143,11 +143,11 @@ module _ (g : Geo) (ok : geoOk g ≡ true) where
   index-length : length (freshIndex g) ≡ 512
   index-length = index-wide g (L .few)
 
-  off2 : (i : ℕ) → ¬ ((g .t + 2 ≤ i) × (i < gDir g)) → k i ≡ sec m2 i
+  off2 : (i : ℕ) → ¬ ((firstPage g ≤ i) × (i < gDir g)) → k i ≡ sec m2 i
   unfolding freshCard
   off2 i o = pages-other g (gP g) 0 m2 i (λ q. o (omega (arith, q .0), omega (arith, q .1, L .dirIs)))
 
-  off1 : (i : ℕ) → ¬ ((g .t + 2 ≤ i) × (i < gDir g)) → i ≢ g .t + 1 → k i ≡ sec m1 i
+  off1 : (i : ℕ) → ¬ ((firstPage g ≤ i) × (i < gDir g)) → i ≢ g .t + 1 → k i ≡ sec m1 i
   off1 i o r = off2 i o ∙ sec-other m1 (g .t + 1) (freshIndex g) index-length i r
 
   pub at-zero : k 0 ≡ blockBytes 0 g
@@ -156,11 +156,11 @@ module _ (g : Geo) (ok : geoOk g ≡ true) where
   pub at-index : k (g .t + 1) ≡ freshIndex g
   at-index = off2 (g .t + 1) (λ q. omega (arith, q .0)) ∙ sec-same m1 (g .t + 1) (freshIndex g) index-length (omega (arith, l1, L .sLow, L .past, L .dir))
 
-  pub at-page : (p : ℕ) → p < gP g → k (g .t + 2 + 2 * p) ≡ freshPage g p
+  pub at-page : (p : ℕ) → p < gP g → k (pairLow g p) ≡ freshPage g p
   unfolding freshCard
   at-page p h = pages-at g (gP g) 0 m2 p (omega arith) (omega arith) (omega (arith, l2, L .dirIs, L .dir, L .sLow))
 
-  at-rest : (i : ℕ) → i < g .s → i ≢ 0 → i ≢ g .t + 1 → ¬ ((g .t + 2 ≤ i) × (i < gDir g)) → k i ≡ blank
+  at-rest : (i : ℕ) → i < g .s → i ≢ 0 → i ≢ g .t + 1 → ¬ ((firstPage g ≤ i) × (i < gDir g)) → k i ≡ blank
   at-rest i h z a b = off1 i b a ∙ sec-other m0 0 (blockBytes 0 g) block-length i z ∙ zero-sector (g .s) i h
 
   -- ---- its parts

@@ -14,7 +14,7 @@ use Rattle.words.specs.Lists.{splice, pad}
 use Rattle.words.proofs.SpliceLaws.{splice-parts}
 use Rattle.sectors.specs.Sectors.{setSec}
 use Rattle.counts.specs.declared.Geo.{Geo}
-use Rattle.counts.specs.Geometry.{gP, geoOk}
+use Rattle.counts.specs.Geometry.{gP, geoOk, pairLow, pairHigh}
 use Rattle.apages.specs.Runs.{freshPage}
 use Rattle.apages.specs.Index.{groupBytes}
 use Rattle.apages.proofs.IndexLaws.{group-length}
@@ -48,8 +48,8 @@ unfolding freshCard
 fresh-start g n l e₀ e₁ e₂ f₀ f₁ = rw (f₁, f₀, e₀, e₁, e₂, l)
 
 -- a turn of the loop over the pairs: both pages of pair p
-pub fresh-turn : (g : Geo) (p : ℕ) (img : List ℕ) {a b page card : List ℕ} → p < gP g → freshPages g p (gP g - p) img ≡ card → page ≡ freshPage g p → a ≡ setSec img (g .t + 2 + 2 * p) page
-    → b ≡ setSec a (g .t + 3 + 2 * p) page → freshPages g (p + 1) (gP g - (p + 1)) b ≡ card
+pub fresh-turn : (g : Geo) (p : ℕ) (img : List ℕ) {a b page card : List ℕ} → p < gP g → freshPages g p (gP g - p) img ≡ card → page ≡ freshPage g p → a ≡ setSec img (pairLow g p) page
+    → b ≡ setSec a (pairHigh g p) page → freshPages g (p + 1) (gP g - (p + 1)) b ≡ card
 unfolding freshPages
 fresh-turn g p img h e f x y =
     let m : gP g - p ≡ suc (gP g - (p + 1)) = omega arith in

@@ -12,7 +12,7 @@ use Rattle.words.proofs.EveryLaws.{every-at}
 use Rattle.words.proofs.BoolLaws.{both, join}
 use Rattle.sectors.specs.Sectors.{Cells, sec}
 use Rattle.counts.specs.declared.Geo.{Geo}
-use Rattle.counts.specs.Geometry.{gN, gP, gDir, geoOk, geoOf, countOf, tableOf}
+use Rattle.counts.specs.Geometry.{gN, gP, gDir, geoOk, geoOf, countOf, tableOf, firstPage}
 use Rattle.counts.specs.Stamps.{tableOk}
 use Rattle.entries.specs.Entries.{entryOk}
 use Rattle.entries.proofs.PassLaws.{Passes, passes}
@@ -50,7 +50,7 @@ view-pair g bound tab k U p l = index-inv g bound tab (indexIn g k) (U .index) .
 
 -- the pages that a view shows lie between the index and the directory
 pub view-page : (g : Geo) (bound : ℕ) (tab : List ℕ) (k : Cells) → View g bound tab k → (p : ℕ) → p < gP g
-    → (g .t + 2 ≤ shownPage tab (groupOf (indexIn g k) p)) × (shownPage tab (groupOf (indexIn g k) p) < gDir g)
+    → (firstPage g ≤ shownPage tab (groupOf (indexIn g k) p)) × (shownPage tab (groupOf (indexIn g k) p) < gDir g)
 view-page g bound tab k U p l = shown-before g p tab (groupOf (indexIn g k) p) l (view-pair g bound tab k U p l)
 
 pub record Sound (g : Geo) (k : Cells) : Type 0 where

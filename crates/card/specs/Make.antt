@@ -8,7 +8,7 @@ use Rattle.words.specs.Lists.{pad}
 use Rattle.words.specs.Bytes.{wordBytes}
 use Rattle.sectors.specs.Sectors.{setSec}
 use Rattle.counts.specs.declared.Geo.{Geo}
-use Rattle.counts.specs.Geometry.{gP, geoOk}
+use Rattle.counts.specs.Geometry.{gP, geoOk, pairLow, pairHigh}
 use Rattle.apages.specs.declared.Index.{Index}
 use Rattle.apages.specs.Runs.{freshPage}
 use Rattle.apages.specs.Index.{groupBytes}
@@ -23,8 +23,8 @@ unfoldable pub freshGroup : Geo → ℕ → Index
 freshGroup g p =
     record {
       stamp = record { cc = record { 0 = 0 }; txc = record { 0 = 0 } };
-      a = record { 0 = g .t + 2 + 2 * p };
-      b = record { 0 = g .t + 3 + 2 * p };
+      a = record { 0 = pairLow g p };
+      b = record { 0 = pairHigh g p };
     }
 
 -- n groups from p on
@@ -39,7 +39,7 @@ freshIndex g = pad 512 (freshGroups g 0 (gP g))
 -- both pages of n pairs from p on, "showing the data free"
 unfoldable pub freshPages : Geo → ℕ → ℕ → List ℕ → List ℕ
 freshPages g p zero img = img
-freshPages g p (suc n) img = freshPages g (suc p) n (setSec (setSec img (g .t + 2 + 2 * p) (freshPage g p)) (g .t + 3 + 2 * p) (freshPage g p))
+freshPages g p (suc n) img = freshPages g (suc p) n (setSec (setSec img (pairLow g p) (freshPage g p)) (pairHigh g p) (freshPage g p))
 
 -- "C = 0, table 0, index .., both apages showing the data free, directory and data zero"
 unfoldable pub freshCard : Geo → List ℕ

@@ -9,7 +9,7 @@ use Rattle.words.specs.Bytes.{wordAt}
 use Rattle.sectors.specs.Sectors.{sec}
 use Rattle.counts.specs.declared.Geo.{Geo}
 use Rattle.counts.specs.declared.Stamp.{Stamp}
-use Rattle.counts.specs.Geometry.{gN, gP, gF, geoOf, countOf, tableOf}
+use Rattle.counts.specs.Geometry.{gN, gP, gF, geoOf, countOf, tableOf, pairLow, pairHigh}
 use Rattle.counts.specs.Stamps.{stampOf}
 use Rattle.entries.specs.declared.Version.the-variants.{Absent}
 use Rattle.entries.specs.Entries.{nameBytes, nameOf, shownBytes, shown, entryRest, Piece, piecesOf}
@@ -123,7 +123,7 @@ NoTwoAlike g img Here =
 -- "Pair p is T + 2 + 2p and T + 3 + 2p, stamped by group p": A and B of group p, in either order
 abbrev pub AandB : Geo → ℕ → List ℕ → Type 0
 AandB g p x =
-    ((wordAt x 8 ≡ g .t + 2 + 2 * p) × (wordAt x 12 ≡ g .t + 3 + 2 * p)) ⊎ ((wordAt x 8 ≡ g .t + 3 + 2 * p) × (wordAt x 12 ≡ g .t + 2 + 2 * p))
+    ((wordAt x 8 ≡ pairLow g p) × (wordAt x 12 ≡ pairHigh g p)) ⊎ ((wordAt x 8 ≡ pairHigh g p) × (wordAt x 12 ≡ pairLow g p))
 
 -- sector n has to have its bit set: "the bits below F, from S up, and of the sectors of shown files"
 abbrev pub Taken : Geo → List ℕ → List ℕ → ℕ → Type 0

@@ -14,7 +14,7 @@ use Rattle.words.proofs.EveryMore.{every-drop}
 use Rattle.words.proofs.SpliceLaws.{range-same}
 use Rattle.sectors.specs.Sectors.{Cells, sec}
 use Rattle.counts.specs.declared.Geo.{Geo}
-use Rattle.counts.specs.Geometry.{gDir, gF, tableOf}
+use Rattle.counts.specs.Geometry.{gDir, gF, tableOf, firstPage}
 use Rattle.counts.proofs.GeoLaws.{Limits, table-same}
 use Rattle.entries.specs.declared.Run.{Run}
 use Rattle.entries.specs.declared.Version.{Version}
@@ -130,7 +130,7 @@ module _ (s : Opened) (j a k : ℕ) (v : Version) (work n d : List ℕ) (k₀ : 
           far′ : gF g ≤ i → i ≢ g .t + 1
           far′ z = omega (arith, z, past-index g, dir-data g)
 
-          far″ : gF g ≤ i → ¬ ((g .t + 2 ≤ i) × (i < gDir g))
+          far″ : gF g ≤ i → ¬ ((firstPage g ≤ i) × (i < gDir g))
           far″ z q = omega (arith, z, q .1, dir-data g)
 
   keep-before : listOf tp after (take j es) ≡ listOf tp work (take j es)

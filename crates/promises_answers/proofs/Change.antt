@@ -8,7 +8,7 @@ use lib.ListN.{length, set}
 use Rattle.counts.proofs.TableLaws.{past-index, dir-data}
 use Rattle.sectors.specs.Sectors.{Cells, sec}
 use Rattle.counts.specs.declared.Geo.{Geo}
-use Rattle.counts.specs.Geometry.{gP, gF, gDir}
+use Rattle.counts.specs.Geometry.{gP, gF, gDir, firstPage, pairLow, pairHigh}
 use Rattle.counts.proofs.GeoLaws.{Limits}
 use Rattle.counts.specs.Stamps.{stampOf}
 use Rattle.entries.specs.declared.Version.{Version}
@@ -78,7 +78,7 @@ module _ (s : Opened) (j a k : ℕ) (v : Version) (work n d : List ℕ) (k₀ : 
   L : Limits g
   L = lim s work (R .fit) (R .live)
 
-  pub page-low : (tab : List ℕ) (p : ℕ) → p < gP g → (g .t + 2 ≤ shownPage tab (groupOf (indexAt s work) p)) × (shownPage tab (groupOf (indexAt s work) p) < gDir g)
+  pub page-low : (tab : List ℕ) (p : ℕ) → p < gP g → (firstPage g ≤ shownPage tab (groupOf (indexAt s work) p)) × (shownPage tab (groupOf (indexAt s work) p) < gDir g)
   page-low tab p l = shown-before g p tab (groupOf (indexAt s work) p) l (paired s work (R .fit) (R .live) .pair p l)
 
   map-two : (tab : List ℕ) → pageIn g tab (sec two) ≡ pageIn g tab (sec work)
@@ -129,8 +129,8 @@ module _ (s : Opened) (j a k : ℕ) (v : Version) (work n d : List ℕ) (k₀ : 
       let r = remapped .pairs q l (λ w. ⊎-elim x y w) in
       record {
         group = rw index-two at (r .group);
-        first = r .first ∙ two-low (g .t + 2 + 2 * q) (omega (arith, L .dirIs));
-        second = r .second ∙ two-low (g .t + 3 + 2 * q) (omega (arith, L .dirIs));
+        first = r .first ∙ two-low (pairLow g q) (omega (arith, L .dirIs));
+        second = r .second ∙ two-low (pairHigh g q) (omega (arith, L .dirIs));
       }
 
   -- with no bit to change the index stays too
@@ -171,7 +171,7 @@ module _ (s : Opened) (j a k : ℕ) (v : Version) (work n d : List ℕ) (k₀ : 
       remapped .other i (λ e. omega (arith, past-index g, dir-data g)) (λ q. omega (arith, q .1, dir-data g))
       ∙ entry-other (spotOf g j) _ _ in-one (spot s j a k v work n d k₀ R .four) (wide s j a k v work n d k₀ R) i (λ e. omega (arith, high))
 
-  pub left-alone : (i : ℕ) → i ≢ spotOf g j .sector → i ≢ g .t + 1 → ¬ ((g .t + 2 ≤ i) × (i < gDir g)) → ¬ ((a ≤ i) × (i < a + k)) → sec newWork i ≡ sec work i
+  pub left-alone : (i : ℕ) → i ≢ spotOf g j .sector → i ≢ g .t + 1 → ¬ ((firstPage g ≤ i) × (i < gDir g)) → ¬ ((a ≤ i) × (i < a + k)) → sec newWork i ≡ sec work i
   left-alone i x y z o = remapped .other i y z ∙ two-other i x o
 
   -- the directory's list changes at j alone

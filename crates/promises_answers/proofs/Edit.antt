@@ -12,7 +12,7 @@ use Rattle.words.proofs.BoolLaws.{All2, nil2, cons2}
 use Rattle.sectors.specs.Sectors.{Cells}
 use Rattle.counts.specs.declared.Geo.{Geo}
 use Rattle.counts.specs.declared.Stamp.{Stamp}
-use Rattle.counts.specs.Geometry.{gN, gP, gF, tableOf, gDir}
+use Rattle.counts.specs.Geometry.{gN, gP, gF, tableOf, gDir, firstPage}
 use Rattle.counts.proofs.TableLaws.{past-index, dir-data}
 use Rattle.counts.proofs.GeoLaws.{Limits}
 use Rattle.counts.specs.Stamps.{maxTx, stampOf}
@@ -77,7 +77,7 @@ pub data Wrote (g : Geo) (own : Stamp) (k₀ k k′ : Cells) (i : ℕ) : Type 0 
   index : i ≡ g .t + 1 → IndexSame g (tableOf g k₀) own (k i) (k′ i) → Wrote g own k₀ k k′ i
 
 module _ (g : Geo) (own : Stamp) (k₀ k k′ : Cells) (P : (i : ℕ) → Keeps g own k₀ i (k i))
-    (pages : (p : ℕ) → p < gP g → (g .t + 2 ≤ shownPage (tableOf g k₀) (groupOf (indexIn g k₀) p)) × (shownPage (tableOf g k₀) (groupOf (indexIn g k₀) p) < gDir g))
+    (pages : (p : ℕ) → p < gP g → (firstPage g ≤ shownPage (tableOf g k₀) (groupOf (indexIn g k₀) p)) × (shownPage (tableOf g k₀) (groupOf (indexIn g k₀) p) < gDir g))
     (inData : (i : ℕ) → Holds (filesIn g k₀) i → gF g ≤ i) where
   -- a loose sector may hold anything
   pub loose-keeps : (i : ℕ) → Loose g k₀ i → Keeps g own k₀ i (k′ i)

@@ -6,7 +6,7 @@ use native.Mathlib.Omega.{arith}
 use native.Mathlib.Decide.{ℕ-discrete, decLt}
 use Rattle.sectors.specs.Sectors.{Cells, sec}
 use Rattle.counts.specs.declared.Geo.{Geo}
-use Rattle.counts.specs.Geometry.{gP, gF, gDir, tableOf}
+use Rattle.counts.specs.Geometry.{gP, gF, gDir, tableOf, firstPage}
 use Rattle.counts.proofs.TableLaws.{past-index, dir-data, dir-is}
 use Rattle.entries.specs.declared.Version.{Version}
 use Rattle.directory.specs.Directory.{spotOf}
@@ -34,23 +34,23 @@ module _ (s : Opened) (j a k : ℕ) (v : Version) (work n d : List ℕ) (k₀ : 
       (entryAt s j work) n v (stamps s j a k v work n d k₀ R) (inCut s j a k v work n d k₀ R .wf) (R .short) (R .good) (R .named) (inCut s j a k v work n d k₀ R .zeros)
 
   -- which pair a page is of
-  pair-of : (i : ℕ) → g .t + 2 ≤ i → i < gDir g → (i - (g .t + 2)) / 2 < gP g
+  pair-of : (i : ℕ) → firstPage g ≤ i → i < gDir g → (i - (firstPage g)) / 2 < gP g
   pair-of i lo hi = omega (arith, dir-is g)
 
-  one-pair : (i p : ℕ) → p < gP g → i ≡ shownPage (tcOf s work) (groupOf (indexAt s work) p) → p ≡ (i - (g .t + 2)) / 2
+  one-pair : (i p : ℕ) → p < gP g → i ≡ shownPage (tcOf s work) (groupOf (indexAt s work) p) → p ≡ (i - (firstPage g)) / 2
   one-pair i p l e =
       let r = shown-range g p (tcOf s work) (groupOf (indexAt s work) p) (paired s work (R .fit) (R .live) .pair p l) in
       omega (arith, r .0, r .1)
 
-  page-wrote : (i : ℕ) → g .t + 2 ≤ i → i < gDir g → Dec (i ≡ shownPage (tcOf s work) (groupOf (indexAt s work) ((i - (g .t + 2)) / 2))) → Wrote g (ownOf s) k₀ (sec work) (sec (editWork s j v work n d)) i
-  page-wrote i lo hi (yes e) = stays (rw e (page-kept s j a k v work n d k₀ R ((i - (g .t + 2)) / 2) (pair-of i lo hi)))
+  page-wrote : (i : ℕ) → firstPage g ≤ i → i < gDir g → Dec (i ≡ shownPage (tcOf s work) (groupOf (indexAt s work) ((i - (firstPage g)) / 2))) → Wrote g (ownOf s) k₀ (sec work) (sec (editWork s j v work n d)) i
+  page-wrote i lo hi (yes e) = stays (rw e (page-kept s j a k v work n d k₀ R ((i - (firstPage g)) / 2) (pair-of i lo hi)))
   page-wrote i lo hi (no o) =
       loose
       (record {
         past = omega arith;
         page = (rw tab≡ (λ p l e.
             let f : i ≡ shownPage (tcOf s work) (groupOf (indexAt s work) p) = e ∙ shown≡ p l in
-            let q : p ≡ (i - (g .t + 2)) / 2 = one-pair i p l f in
+            let q : p ≡ (i - (firstPage g)) / 2 = one-pair i p l f in
             o (rw q at f)));
         dir = λ q. omega (arith, q .0);
         held = λ h. omega (arith, inData i h, dir-data g);
@@ -83,9 +83,9 @@ module _ (s : Opened) (j a k : ℕ) (v : Version) (work n d : List ℕ) (k₀ : 
   index-wrote = index refl (rw tab≡ (unfold indexIn in index-same s j a k v work n d k₀ R))
 
   pub wrote : (i : ℕ) → Wrote g (ownOf s) k₀ (sec work) (sec (editWork s j v work n d)) i
-  wrote i = go (ℕ-discrete i (spotOf g j .sector)) (ℕ-discrete i (g .t + 1)) (decLt i (g .t + 2)) (decLt i (gDir g)) (decLt i a) (decLt i (a + k))
+  wrote i = go (ℕ-discrete i (spotOf g j .sector)) (ℕ-discrete i (g .t + 1)) (decLt i (firstPage g)) (decLt i (gDir g)) (decLt i a) (decLt i (a + k))
     where
-      go : Dec (i ≡ spotOf g j .sector) → Dec (i ≡ g .t + 1) → Dec (i < g .t + 2) → Dec (i < gDir g) → Dec (i < a) → Dec (i < a + k) → Wrote g (ownOf s) k₀ (sec work) (sec (editWork s j v work n d)) i
+      go : Dec (i ≡ spotOf g j .sector) → Dec (i ≡ g .t + 1) → Dec (i < firstPage g) → Dec (i < gDir g) → Dec (i < a) → Dec (i < a + k) → Wrote g (ownOf s) k₀ (sec work) (sec (editWork s j v work n d)) i
       go (yes e) d₁ d₂ d₃ d₄ d₅ = rw e entry-wrote
       go (no e) (yes f) d₂ d₃ d₄ d₅ = rw f index-wrote
       go (no e) (no f) (no x) (yes y) d₄ d₅ = page-wrote i (omega arith) y (ℕ-discrete i _)

@@ -12,7 +12,7 @@ use Rattle.words_sums.specs.Sums.{bit, total, inRun}
 use Rattle.words_sums.proofs.SumLaws.{total-le, total-add, total-zero}
 use Rattle.sectors.specs.Sectors.{sec, differs, unlike}
 use Rattle.counts.specs.declared.Geo.{Geo}
-use Rattle.counts.specs.Geometry.{gP, gDir, tableOf}
+use Rattle.counts.specs.Geometry.{gP, gDir, tableOf, firstPage, pairLow, pairHigh}
 use Rattle.counts.proofs.TableLaws.{dir-is}
 use Rattle.apages.specs.Index.{groupOf, indexIn, shownPage}
 use Rattle.apages.proofs.PassLaws.{shown-range, index-inv}
@@ -86,9 +86,9 @@ module _ (s : Opened) (card work : List ℕ) (p : Pending) (m : List Item) (V₀
   shows q = shownPage (tableOf g (sec (V₀ .img₀))) (groupOf (indexIn g (sec (V₀ .img₀))) q)
 
   other : ℕ → ℕ
-  other q = (g .t + 2 + 2 * q) + (g .t + 3 + 2 * q) - shows q
+  other q = (pairLow g q) + (pairHigh g q) - shows q
 
-  shows-range : (q : ℕ) → q < gP g → (g .t + 2 + 2 * q ≤ shows q) × (shows q ≤ g .t + 3 + 2 * q)
+  shows-range : (q : ℕ) → q < gP g → (pairLow g q ≤ shows q) × (shows q ≤ pairHigh g q)
   unfolding shows
   shows-range q l =
       shown-range g q _ _ (index-inv g _ _ _ (sound-view g (sec (V₀ .img₀)) (V₀ .base .good) .index) .groups q l .pair)
@@ -110,18 +110,18 @@ module _ (s : Opened) (card work : List ℕ) (p : Pending) (m : List Item) (V₀
   bound-at : ℕ → ℕ
   bound-at i = bit (M .sectors i) + inRun (g .t + 1) (bit (someOf (M .pages) (gP g))) i + each other (M .pages) (gP g) i
 
-  paged : (i : ℕ) → g .t + 2 ≤ i → i < gDir g → differs card work i ≤ each other (M .pages) (gP g) i
-  paged i lo hi = go (M .pages q) refl (ℕ-discrete i (shows q)) (ℕ-discrete i (g .t + 2 + 2 * q))
+  paged : (i : ℕ) → firstPage g ≤ i → i < gDir g → differs card work i ≤ each other (M .pages) (gP g) i
+  paged i lo hi = go (M .pages q) refl (ℕ-discrete i (shows q)) (ℕ-discrete i (pairLow g q))
     where
       q : ℕ
-      q = (i - (g .t + 2)) / 2
+      q = (i - (firstPage g)) / 2
 
       l : q < gP g
       l = omega (arith, dir-is g)
 
-      go : (b : Bool) → M .pages q ≡ b → Dec (i ≡ shows q) → Dec (i ≡ g .t + 2 + 2 * q) → differs card work i ≤ each other (M .pages) (gP g) i
+      go : (b : Bool) → M .pages q ≡ b → Dec (i ≡ shows q) → Dec (i ≡ pairLow g q) → differs card work i ≤ each other (M .pages) (gP g) i
       go false z d₁ (yes e) = let k : differs card work i ≡ 0 = rw e (equal _ (T .page q l z .0)) in omega arith
-      go false z d₁ (no e) = let f : i ≡ g .t + 3 + 2 * q = omega arith in let k : differs card work i ≡ 0 = rw f (equal _ (T .page q l z .1)) in omega arith
+      go false z d₁ (no e) = let f : i ≡ pairHigh g q = omega arith in let k : differs card work i ≡ 0 = rw f (equal _ (T .page q l z .1)) in omega arith
       go true z (yes e) d₂ = let k : differs card work i ≡ 0 = rw e (page-same q l) in omega arith
       go true z (no o) d₂ =
           let r = shows-range q l in

@@ -10,7 +10,7 @@ use lib.Dec.{leb, ltb, eqb}
 use Rattle.words.proofs.BoolLaws.{falsum, join}
 use Rattle.sectors.specs.Sectors.{sec}
 use Rattle.counts.specs.declared.Geo.{Geo}
-use Rattle.counts.specs.Geometry.{gP, gDir}
+use Rattle.counts.specs.Geometry.{gP, gDir, pairLow, pairHigh}
 use Rattle.counts.proofs.TableLaws.{past-index}
 use Rattle.entries.specs.declared.Version.{Version}
 use Rattle.directory.specs.Directory.{spotOf}
@@ -37,7 +37,7 @@ OneValue l = (x y : List ℕ) → List·Memᴰ x l → List·Memᴰ y l → x �
 -- what is not marked: a directory or data sector, both pages of a pair, and the index where no pair is
 pub record Unmarked (s : Opened) (p : Pending) (m : Marks) : Type 0 where
   pub sector : (i : ℕ) → gDir (s .geo) ≤ i → m .sectors i ≡ false → OneValue (p i)
-  pub page : (q : ℕ) → q < gP (s .geo) → m .pages q ≡ false → OneValue (p (s .geo .t + 2 + 2 * q)) × OneValue (p (s .geo .t + 3 + 2 * q))
+  pub page : (q : ℕ) → q < gP (s .geo) → m .pages q ≡ false → OneValue (p (pairLow (s .geo) q)) × OneValue (p (pairHigh (s .geo) q))
   pub index : ((q : ℕ) → q < gP (s .geo) → m .pages q ≡ false) → OneValue (p (s .geo .t + 1))
 
 abbrev pub Touched : Session → Pending → Marks → Type 0

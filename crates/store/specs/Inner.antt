@@ -40,7 +40,7 @@ pub record CanMount (card : List ℕ) : Type 0 where
   pub word : getD (tableOf (geoOf (sec card)) (sec card)) (countOf (sec card)) 0 < maxTx
 
 pub record CanSync (s : Opened) (card work : List ℕ) : Type 0 where
-  pub room : s .geo .t + 4 < s .geo .s
+  pub room : s .geo .t < s .geo .s
   pub top : s .geo .s ≤ 65536
   pub table : s .geo .t ≤ 512
   pub count : s .c .0 < 128 * s .geo .t
