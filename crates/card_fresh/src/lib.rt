@@ -37,7 +37,7 @@ fn data_from(g: Geo, p: u32) -> usize
     if p > 0 {
         return 0;
     }
-    counts::data_first(g) as usize
+    counts::data_first(g).0 as usize
 }
 
 // Where the data ends in page p: at S, or at the page's end.

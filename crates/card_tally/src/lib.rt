@@ -43,10 +43,10 @@ fn fixed_bits(g: Geo, n: u32) -> u32
     ensures { λ r. ⌜ (r ≡ fixedBits g n) × (r ≤ n) ⌝ }
 {
     let first = counts::data_first(g);
-    if g.s < first {
+    if g.s < first.0 {
         return n;
     }
-    n - (g.s - first)
+    n - (g.s - first.0)
 }
 
 // Whether the bits of k sectors from a on, all of one page, are set in the page that a view shows.
@@ -185,7 +185,7 @@ pub fn pages_ok(card: &[u8], g: Geo, v: View, scratch: &mut [u8; 128]) -> bool
 {
     let bits = 4096 * counts::pairs(g);
     let first = counts::data_first(g);
-    let low = held(card, g, v, 0, first);
+    let low = held(card, g, v, 0, first.0);
     let high = held(card, g, v, g.s, bits - g.s);
     let t = tally_of(card, g, v);
     let set = t.set;

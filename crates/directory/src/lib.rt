@@ -13,7 +13,7 @@ pub fn place_of(g: Geo, j: usize) -> usize
     requires { ⌜ InLimits g × (j < 4 * g .d) ⌝ }
     ensures { λ r. ⌜ r ≡ placeOf g j ⌝ }
 {
-    512 * (counts::dir_first(g) as usize) + 128 * j
+    512 * (counts::dir_first(g).0 as usize) + 128 * j
 }
 
 // Writes entry j.

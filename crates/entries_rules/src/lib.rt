@@ -34,7 +34,7 @@ fn run_ok(g: Geo, r: Run) -> bool
     let first = counts::data_first(g);
     let end = r.start.0 as u64 + r.sectors as u64;
     let page = (r.start.0 % 4096) as u64 + r.sectors as u64;
-    whole & ((first <= r.start.0) & (end <= g.s as u64) & (page <= 4096))
+    whole & ((first.0 <= r.start.0) & (end <= g.s as u64) & (page <= 4096))
 }
 
 // Whether the 16 bytes of a version are well formed.

@@ -10,14 +10,14 @@ data-first-requires c κs = search needs
 
 returns : tie.Need-returns
 unfolding fixedBits
-returns c = (omega (arith, c .before .before .data-first .ensures .0), omega arith)
+returns c = (omega (arith, c .before .before .before .data-first .ensures .0), omega arith)
 
 sub-result : tie.Need-sub-result
 sub-result c = search needs
 
 returns-2 : tie.Need-returns-2
 unfolding fixedBits
-returns-2 c = (omega (arith, c .before .before .before .data-first .ensures .0), omega arith)
+returns-2 c = (omega (arith, c .before .before .before .before .before .data-first .ensures .0), omega arith)
 
 pub fixed-bits-spec : {M : Type 1} → statement M
 fixed-bits-spec = tie.close (tie.spec data-first-requires returns sub-result returns-2)

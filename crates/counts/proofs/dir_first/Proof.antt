@@ -5,17 +5,17 @@ use Rattle.counts.proofs.TableLaws.{dir-is}
 use Rattle.counts.proofs.dir_first.Statement.{statement}
 use Rattle.counts.proofs.dir_first.Tie as tie
 
-add-result : tie.Need-add-result
-add-result c = search needs
+add-first : tie.Need-add-first
+add-first c = search needs
 
 pairs-requires : tie.Need-pairs-requires
 pairs-requires c κs = search needs
 
-mul-result : tie.Need-mul-result
-mul-result c = search needs
+mul-first : tie.Need-mul-first
+mul-first c = search needs
 
-add-result-2 : tie.Need-add-result-2
-add-result-2 c = search needs
+add-first-2 : tie.Need-add-first-2
+add-first-2 c = search needs
 
 returns : tie.Need-returns
 returns c =
@@ -23,4 +23,4 @@ returns c =
     (omega (arith, dir-is (s .args .g), c .pairs .ensures .0), omega (arith, s .pre .t, c .pairs .ensures .1))
 
 pub dir-first-spec : {M : Type 1} → statement M
-dir-first-spec = tie.close (tie.spec add-result pairs-requires mul-result add-result-2 returns)
+dir-first-spec = tie.close (tie.spec add-first pairs-requires mul-first add-first-2 returns)

@@ -40,7 +40,7 @@ cast-result c = search needs
 returns-2 : tie.Need-returns-2
 unfolding runOk
 returns-2 c =
-    let z = c .before .before .before .before .before .before in
+    let z = c .before .before .before .before .before .before .before in
     simp (z .before .before .before .before .sectors-for .ensures, ne-eqb _ _ (z .before .if1 .left), z .data-first .ensures .0, pieces-text)
 
 pub run-ok-spec : {M : Type 1} → statement M
