@@ -50,17 +50,17 @@ fn fixed_bits(g: Geo, n: u32) -> u32
 }
 
 // Whether the bits of k sectors from a on, all of one page, are set in the page that a view shows.
-fn held(card: &[u8], g: Geo, v: View, a: u32, k: u32) -> bool
-    requires { ⌜ LaidOut g (now card) × (PairIn g (now card) × ((a % 4096 + k ≤ 4096) × (0 < k → a < 4096 * gP g))) ⌝ }
-    ensures { λ r. ⌜ r ≡ allSet (pageIn g (tableIn g v (sec (now (card .entry)))) (sec (now (card .entry)))) a k ⌝ }
+fn held(card: &[u8], g: Geo, v: View, a: Sector, k: u32) -> bool
+    requires { ⌜ LaidOut g (now card) × (PairIn g (now card) × ((a .0 % 4096 + k ≤ 4096) × (0 < k → a .0 < 4096 * gP g))) ⌝ }
+    ensures { λ r. ⌜ r ≡ allSet (pageIn g (tableIn g v (sec (now (card .entry)))) (sec (now (card .entry)))) (a .0) k ⌝ }
 {
     if k == 0 {
         return true;
     }
-    let n = card_files::page_at(card, g, v, a / 4096);
+    let n = card_files::page_at(card, g, v, a.0 / 4096);
     let at = 512 * (n.0 as usize);
     let end = at + 512;
-    apages_ones::run_set(&card[at..end], (a % 4096) as usize, k as usize)
+    apages_ones::run_set(&card[at..end], (a.0 % 4096) as usize, k as usize)
 }
 
 // The page of a run's pair: the one known, where it is of that pair or the run has no sectors.
@@ -102,7 +102,10 @@ fn tally_of(card: &[u8], g: Geo, v: View) -> Tally
     let mut page = Page { pair: 0, at: first };
     let mut set = true;
     let mut sectors: u32 = 0;
-    let mut own = Walk { end: 0, sum: 0 };
+    let mut own = Walk {
+        end: Sector(0),
+        sum: 0,
+    };
     let mut j = 0;
     while j < 4 * (g.d as usize) {
         let r = run_at(card, g, v, j);
@@ -166,7 +169,11 @@ fn runs_apart(card: &[u8], g: Geo, v: View, sectors: u32, own: Walk, order: &mut
     if own.sum == sectors {
         return true;
     }
-    let one = card_order::round(card, g, v, order, Walk { end: 0, sum: 0 });
+    let none = Walk {
+        end: Sector(0),
+        sum: 0,
+    };
+    let one = card_order::round(card, g, v, order, none);
     if one.sum == sectors {
         return true;
     }
@@ -185,8 +192,8 @@ pub fn pages_ok(card: &[u8], g: Geo, v: View, scratch: &mut [u8; 128]) -> bool
 {
     let bits = 4096 * counts::pairs(g);
     let first = counts::data_first(g);
-    let low = held(card, g, v, 0, first.0);
-    let high = held(card, g, v, g.s, bits - g.s);
+    let low = held(card, g, v, Sector(0), first.0);
+    let high = held(card, g, v, Sector(g.s), bits - g.s);
     let t = tally_of(card, g, v);
     let set = t.set;
     let sectors = t.sectors;

@@ -12,7 +12,7 @@ returns : tie.Need-returns
 returns c = held-none _ _ (c .if1 .taken)
 
 page-at-requires : tie.Need-page-at-requires
-page-at-requires c κs = (c .before .before .pre .0, omega (arith, c .before .before .pre .1 .1 .1 (omega arith)))
+page-at-requires c κs = let z = c .before .before .before in (z .pre .0, omega (arith, z .pre .1 .1 .1 (omega arith)))
 
 cast-at : tie.Need-cast-at
 cast-at c = search needs
@@ -30,7 +30,7 @@ part-run-set-start : tie.Need-part-run-set-start
 part-run-set-start c = search needs
 
 part-run-set-end : tie.Need-part-run-set-end
-part-run-set-end c = let z = c .before .before .before .before in page-room _ _ _ _ (z .pre .0) (omega (arith, z .pre .1 .1 .1 (omega (arith, c .before .before .if1 .left)))) (z .pre .1 .0) (c .before .page-at .ensures)
+part-run-set-end c = let z = c .before .before .before .before .before in page-room _ _ _ _ (z .pre .0) (omega (arith, z .pre .1 .1 .1 (omega (arith, c .before .before .before .if1 .left)))) (z .pre .1 .0) (c .before .page-at .ensures)
 
 cast-run-set : tie.Need-cast-run-set
 cast-run-set c = search needs
@@ -39,7 +39,7 @@ run-set-requires : tie.Need-run-set-requires
 run-set-requires c κs = search needs
 
 returns-2 : tie.Need-returns-2
-returns-2 c = let z = c .before .before .before .before .before .before in held-lent _ _ _ (z .pre .0) (z .pre .1 .0) _ _ (omega (arith, z .pre .1 .1 .1 (omega (arith, c .before .before .before .before .if1 .left)))) (z .pre .1 .1 .0) (c .before .before .before .page-at .ensures) (c .run-set .ensures)
+returns-2 c = let z = c .before .before .before .before .before .before .before .before in held-lent _ _ _ (z .pre .0) (z .pre .1 .0) _ _ (omega (arith, z .pre .1 .1 .1 (omega (arith, c .before .before .before .before .before .before .if1 .left)))) (z .pre .1 .1 .0) (c .before .before .before .before .page-at .ensures) (c .run-set .ensures)
 
 pub held-spec : {M : Type 1} → statement M
 held-spec =
