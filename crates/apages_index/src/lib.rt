@@ -56,9 +56,9 @@ fn pair_ok(g: Geo, p: u32, a: Sector, b: Sector) -> bool
     requires { ⌜ InLimits g × (p < gP g) ⌝ }
     ensures { λ r. ⌜ r ≡ pairOk g p (a .0) (b .0) ⌝ }
 {
-    let low = g.t + 2 + 2 * p;
-    let high = g.t + 3 + 2 * p;
-    ((a.0 == low) & (b.0 == high)) | ((a.0 == high) & (b.0 == low))
+    let low = counts::pair_low(g, p);
+    let high = counts::pair_high(g, p);
+    ((a.0 == low.0) & (b.0 == high.0)) | ((a.0 == high.0) & (b.0 == low.0))
 }
 
 // Whether group p passes in a view, with dead stamps below a bound.

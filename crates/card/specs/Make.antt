@@ -18,7 +18,7 @@ use Rattle.card.specs.Plan.{Plan, guard, ended, doIt, refused, done, Cha
 unfoldable pub blockBytes : ℕ → Geo → List ℕ
 blockBytes C g = wordBytes C ++ wordBytes (g .s) ++ wordBytes (g .t) ++ wordBytes (g .d) ++ replicate 496 0
 
--- group p of a fresh index: the words 0, 0, T + 2 + 2p, T + 3 + 2p
+-- group p of a fresh index: the words 0, 0 and the two sectors of its pair
 unfoldable pub freshGroup : Geo → ℕ → Index
 freshGroup g p =
     record {

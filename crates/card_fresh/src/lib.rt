@@ -62,7 +62,7 @@ fn fresh_page(g: Geo, p: u32) -> [u8; 512]
     page
 }
 
-// Group p of a fresh index: the words 0, 0, T + 2 + 2p, T + 3 + 2p.
+// Group p of a fresh index: the words 0, 0 and the two sectors of its pair.
 fn fresh_group(g: Geo, p: u32) -> Index
     requires { ⌜ InLimits g × (p < gP g) ⌝ }
     ensures { λ r. ⌜ r ≡ freshGroup g p ⌝ }
@@ -71,11 +71,9 @@ fn fresh_group(g: Geo, p: u32) -> Index
         cc: CrashCount(0),
         txc: TxCount(0),
     };
-    Index {
-        stamp,
-        a: Sector(g.t + 2 + 2 * p),
-        b: Sector(g.t + 3 + 2 * p),
-    }
+    let a = counts::pair_low(g, p);
+    let b = counts::pair_high(g, p);
+    Index { stamp, a, b }
 }
 
 // The index sector: "the index holds P groups".
@@ -103,8 +101,10 @@ fn fresh_pages(g: Geo, card: &mut [u8])
     let mut p = 0;
     while p < pairs {
         let page = fresh_page(g, p);
-        sectors::write_sector(card, Sector(g.t + 2 + 2 * p), &page);
-        sectors::write_sector(card, Sector(g.t + 3 + 2 * p), &page);
+        let a = counts::pair_low(g, p);
+        let b = counts::pair_high(g, p);
+        sectors::write_sector(card, a, &page);
+        sectors::write_sector(card, b, &page);
         p += 1;
     }
 }

@@ -1,37 +1,25 @@
--- Its sectors are below 65,536. Assumes nothing.
-use mathlib.Core.Path.{refl}
-use native.Mathlib.Omega.{arith}
+-- Stamp 0, 0, and the two sectors of its pair. Assumes nothing.
+use mathlib.Core.Path.{ap, _∙_}
+use Prim.Native.Nat.{ℕ}
 use borrow.Author.Needs.{needs}
-use Rattle.counts.specs.Geometry.{gP}
+use Rattle.counts.specs.declared.Stamp.{Stamp}
+use Rattle.counts.specs.Geometry.{pairLow}
 use Rattle.card.specs.Make.{freshGroup}
 use Rattle.card_fresh.proofs.fresh_group.Statement.{statement}
 use Rattle.card_fresh.proofs.fresh_group.Tie as tie
 
-add-t6 : tie.Need-add-t6
-add-t6 c = search needs
+pair-low-requires : tie.Need-pair-low-requires
+pair-low-requires c κs = search needs
 
-mul-t7 : tie.Need-mul-t7
-unfolding gP
-mul-t7 c = omega arith
-
-add-t8 : tie.Need-add-t8
-unfolding gP
-add-t8 c = omega arith
-
-add-t10 : tie.Need-add-t10
-add-t10 c = search needs
-
-mul-t11 : tie.Need-mul-t11
-unfolding gP
-mul-t11 c = omega arith
-
-add-t12 : tie.Need-add-t12
-unfolding gP
-add-t12 c = omega arith
+pair-high-requires : tie.Need-pair-high-requires
+pair-high-requires c κs = search needs
 
 returns : tie.Need-returns
 unfolding freshGroup
-returns c = refl
+returns c =
+    let zero : Stamp = record { cc = record { 0 = 0 }; txc = record { 0 = 0 } } in
+    ap (λ (x : ℕ). record { stamp = zero; a = record { 0 = x }; b = c .pair-high .result }) (c .before .pair-low .ensures)
+    ∙ ap (λ (x : ℕ). record { stamp = zero; a = record { 0 = pairLow (c .before .before .args .g) (c .before .before .args .p) }; b = record { 0 = x } }) (c .pair-high .ensures)
 
 pub fresh-group-spec : {M : Type 1} → statement M
-fresh-group-spec = tie.close (tie.spec add-t6 mul-t7 add-t8 add-t10 mul-t11 add-t12 returns)
+fresh-group-spec = tie.close (tie.spec pair-low-requires pair-high-requires returns)

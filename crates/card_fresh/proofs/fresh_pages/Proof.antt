@@ -26,31 +26,19 @@ loop-holds c = let e : gP (c .before .before .args .g) - 0 ≡ gP (c .before .be
 fresh-page-requires : tie.Need-fresh-page-requires Inv-loop μ-loop
 fresh-page-requires c κs = search needs
 
-add-t11 : tie.Need-add-t11 Inv-loop μ-loop
-add-t11 c = search needs
+pair-low-requires : tie.Need-pair-low-requires Inv-loop μ-loop
+pair-low-requires c κs = search needs
 
-mul-t12 : tie.Need-mul-t12 Inv-loop μ-loop
-mul-t12 c = search needs
-
-add-t13 : tie.Need-add-t13 Inv-loop μ-loop
-add-t13 c = search needs
+pair-high-requires : tie.Need-pair-high-requires Inv-loop μ-loop
+pair-high-requires c κs = search needs
 
 slice-aggregate-write-sector : tie.Need-slice-aggregate-write-sector Inv-loop μ-loop
 slice-aggregate-write-sector c = search needs
 
 write-sector-requires : tie.Need-write-sector-requires Inv-loop μ-loop
 write-sector-requires c κs =
-    let s = c .before .before .before .before .before .before .before .before in
-    (omega (arith, dir-is (s .args .g), s .pre .dir, s .pre .room), search needs)
-
-add-t11-2 : tie.Need-add-t11-2 Inv-loop μ-loop
-add-t11-2 c = search needs
-
-mul-t13 : tie.Need-mul-t13 Inv-loop μ-loop
-mul-t13 c = search needs
-
-add-t12 : tie.Need-add-t12 Inv-loop μ-loop
-add-t12 c = search needs
+    let s = c .before .before .before .before .before .before .before .before .before in
+    (omega (arith, dir-is (s .args .g), s .pre .dir, s .pre .room, c .before .before .before .pair-low .ensures), search needs)
 
 slice-aggregate-write-sector-2 : tie.Need-slice-aggregate-write-sector-2 Inv-loop μ-loop
 slice-aggregate-write-sector-2 c = search needs
@@ -58,7 +46,7 @@ slice-aggregate-write-sector-2 c = search needs
 write-sector-requires-2 : tie.Need-write-sector-requires-2 Inv-loop μ-loop
 write-sector-requires-2 c κs =
     let s = c .before .before .before .before .before .before .before .before .before .before .before .before .before .before in
-    (omega (arith, dir-is (s .args .g), s .pre .dir, s .pre .room, c .before .before .before .before .before .write-sector .kept .0), search needs)
+    (omega (arith, dir-is (s .args .g), s .pre .dir, s .pre .room, c .before .before .before .before .before .before .before .pair-high .ensures, c .before .before .before .before .write-sector .kept .0), search needs)
 
 add-p : tie.Need-add-p Inv-loop μ-loop
 add-p c = search needs
@@ -68,9 +56,9 @@ loop-less c = search needs
 
 loop-again : tie.Need-loop-again Inv-loop μ-loop
 loop-again c =
-    let w = c .before .before .before .before .before .before .before .before in
-    let l = w .before .before .before .before .before .before .loop in
-    (omega arith, fresh-turn _ _ _ (omega arith) (l .inv .1) (w .before .before .before .before .fresh-page .ensures) (w .write-sector .ensures) (c .before .before .write-sector2 .ensures), omega (arith, w .write-sector .kept .0, c .before .before .write-sector2 .kept .0))
+    let w = c .before .before .before .before .before .before .before in
+    let l = w .before .before .before .before .before .before .before .loop in
+    (omega arith, fresh-turn _ _ _ (omega arith) (l .inv .1) (w .before .before .before .before .before .fresh-page .ensures) (rw (w .before .before .before .before .pair-low .ensures) at (w .write-sector .ensures)) (rw (w .before .before .before .pair-high .ensures) at (c .before .before .write-sector2 .ensures)), omega (arith, w .write-sector .kept .0, c .before .before .write-sector2 .kept .0))
 
 same-length : tie.Need-same-length Inv-loop μ-loop
 same-length c = omega arith
@@ -87,14 +75,10 @@ fresh-pages-spec =
     pairs-requires
     loop-holds
     fresh-page-requires
-    add-t11
-    mul-t12
-    add-t13
+    pair-low-requires
+    pair-high-requires
     slice-aggregate-write-sector
     write-sector-requires
-    add-t11-2
-    mul-t13
-    add-t12
     slice-aggregate-write-sector-2
     write-sector-requires-2
     add-p
