@@ -1,26 +1,21 @@
--- Two maps as one, set where either is: the sectors of one byte, word by word, and the two figures of free by its ones. Assumes nothing.
+-- Two maps as one, set where either is: word by word, and the two figures of free by its ones. Assumes nothing.
 use mathlib.Core.Path.{_≡_, refl, sym, ap, _∙_}
-use mathlib.Core.Bool.{Bool, true, false}
-use mathlib.Core.Logic.{_⊎_, inl, inr}
 use mathlib.Core.List.{List, [], _∷_}
 use Prim.Native.Nat.{ℕ, zero, suc, _+_, _-_, _*_, _/_, _%_, _^_, max, _≤_, _<_}
 use native.Mathlib.Omega.{arith}
-use borrow.Author.Tests.{eq-eqb, ne-eqb}
-use lib.Bits.{bitAnd, bitOr, and-mask, or-zero-l, or-lt, or-block, or-shr, or-mod}
-use lib.Pow.{ones-split, ones-lt, high}
+use lib.Bits.{bitOr, or-zero-l, or-lt, or-block, or-shr, or-mod}
 use lib.ListN.{length, getD}
 use Rattle.words_sums.specs.Sums.{total}
 use Rattle.words_sums.proofs.SumLaws.{total-add, total-one}
-use Rattle.words.specs.Lists.{isZero}
 use Rattle.words.specs.Bytes.{wordAt}
 use Rattle.words.proofs.WordLaws.{wordAt-getD}
 use Rattle.apages.specs.Bits.{digit, bitAt}
-use Rattle.apages.proofs.BitLaws.{digit-zero, digit-shift, digit-low, digit-ones, bit-lt}
+use Rattle.apages.proofs.BitLaws.{bit-lt}
 use Rattle.apages.specs.Ones.{word64At, onesOf, setBits}
 use Rattle.apages.proofs.OnesLaws.{ones-more}
 use Rattle.apages.specs.Free.{freeIn, waitingIn}
 use Rattle.apages.proofs.FreeLaws.{freeAt, waitsAt, free-total, waiting-total}
-use Rattle.apages.specs.Inner.{busyAt, Alike, eitherOf, either}
+use Rattle.apages.specs.Inner.{eitherOf, either}
 
 pub either-length : (p q : List ℕ) → length p ≡ length q → length (either p q) ≡ length p
 unfolding either
@@ -57,7 +52,7 @@ either-bits (suc (suc x)) y a b = absurd (omega arith)
 either-bits zero (suc (suc y)) a b = absurd (omega arith)
 either-bits (suc zero) (suc (suc y)) a b = absurd (omega arith)
 
-either-digit : (x y b : ℕ) → digit (eitherOf x y) b ≡ max (digit x b) (digit y b)
+pub either-digit : (x y b : ℕ) → digit (eitherOf x y) b ≡ max (digit x b) (digit y b)
 unfolding eitherOf
 either-digit x y b = ap (λ (z : ℕ). z % 2) (or-shr x y b) ∙ or-mod (x / 2 ^ b) (y / 2 ^ b) 1 ∙ either-bits (digit x b) (digit y b) (omega arith) (omega arith)
 
@@ -109,55 +104,6 @@ module _ (p q : List ℕ) (alike : length p ≡ length q) (ps : (j : ℕ) → ge
   pub either-more : (at s : ℕ) {x y r : ℕ} → x ≡ word64At p at → y ≡ word64At q at → r ≡ onesOf (bitOr x y) → s ≡ total (bitAt (either p q)) (8 * at)
       → s + r ≡ total (bitAt (either p q)) (8 * (at + 8))
   either-more at s ex ey er h = ones-more (either p q) either-bytes at s h (er ∙ (unfold eitherOf in rw (ex, ey) (ap onesOf (sym (either-word at)))))
-
--- ---- the sectors of one byte
-
--- a sector is free where neither byte has its bit, busy where one of them has
-max-free : (x y z : ℕ) → z ≡ max x y → z ≡ 0 → isZero (x + y) ≡ true
-max-free x y z e h = eq-eqb (x + y) 0 (omega arith)
-
-max-busy : (x y z : ℕ) → z ≡ max x y → z ≡ 1 → isZero (x + y) ≡ false
-max-busy x y z e h = ne-eqb (x + y) 0 (λ n. omega arith)
-
--- a full byte shifted until m of its bits are left
-full-shifted : (m : ℕ) → m ≤ 8 → 255 / 2 ^ (8 - m) ≡ 2 ^ m - 1
-full-shifted m h =
-    let e : m + (8 - m) ≡ 8 = omega arith in
-    let f : 255 ≡ (2 ^ m - 1) * 2 ^ (8 - m) + (2 ^ (8 - m) - 1) = rw e at (ones-split m (8 - m)) in
-    ap (λ (x : ℕ). x / 2 ^ (8 - m)) f ∙ high (2 ^ m - 1) (8 - m) (ones-lt (8 - m))
-
--- m sectors from n on, whose bits lie in one byte: the bits of either map, shifted down
-module _ (p q : List ℕ) (n m : ℕ) (l : n % 8 + m ≤ 8) (x mask : ℕ) (em : mask ≡ 255 / 2 ^ (8 - m)) (ex : x ≡ bitAnd (bitOr (getD p (n / 8) 0) (getD q (n / 8) 0) / 2 ^ (n % 8)) mask) where
-  ones : mask ≡ 2 ^ m - 1
-  ones = em ∙ full-shifted m (omega arith)
-
-  part-digit : (i : ℕ) → n ≤ i → i < n + m → digit x (i - n) ≡ max (bitAt p i) (bitAt q i)
-  unfolding bitAt
-  part-digit i a b =
-      let e : i / 8 ≡ n / 8 = omega arith in
-      let f : n % 8 + (i - n) ≡ i % 8 = omega arith in
-      let y = bitOr (getD p (n / 8) 0) (getD q (n / 8) 0) in
-      let low : x ≡ y / 2 ^ (n % 8) % 2 ^ m = ex ∙ ap (λ (k : ℕ). bitAnd (y / 2 ^ (n % 8)) k) ones ∙ and-mask (y / 2 ^ (n % 8)) m in
-      rw e (
-      ap (λ (k : ℕ). digit k (i - n)) low ∙ digit-low m (y / 2 ^ (n % 8)) (i - n) (omega arith) ∙ digit-shift y (n % 8) (i - n) ∙ ap (λ (k : ℕ). digit y k) f
-      ∙ (unfold eitherOf in either-digit (getD p (n / 8) 0) (getD q (n / 8) 0) (i % 8)))
-
-  part-each : (x ≡ 0) ⊎ (x ≡ mask) → Bool
-  part-each (inl h) = true
-  part-each (inr h) = false
-
-  part-free : (h : (x ≡ 0) ⊎ (x ≡ mask)) (i : ℕ) → n ≤ i → i < n + m → isZero (busyAt p q i) ≡ part-each h
-  unfolding busyAt part-each
-  part-free (inl h) i a b = max-free (bitAt p i) (bitAt q i) (digit x (i - n)) (part-digit i a b) (rw h (digit-zero (i - n)))
-  part-free (inr h) i a b = max-busy (bitAt p i) (bitAt q i) (digit x (i - n)) (part-digit i a b) (rw (h ∙ ones) (digit-ones m (i - n) (omega arith)))
-
-  -- none of the bits is set in either map, or each in one of them
-  pub part-alike : (x ≡ 0) ⊎ (x ≡ mask) → 1 ≤ m → Alike p q n m
-  part-alike h o i a b = part-free h i a b ∙ sym (part-free h n (omega arith) (omega arith))
-
--- one sector is like itself
-pub one-alike : (p q : List ℕ) (n : ℕ) → Alike p q n 1
-one-alike p q n i a b = let e : i ≡ n = omega arith in rw e
 
 -- ---- the figures by the ones
 

@@ -20,4 +20,5 @@ pub mod PageSearch
 pub mod ImageSearch
 pub mod FreeLaws
 pub mod Either
+pub mod AlikeLaws
 pub mod Joined
