@@ -25,7 +25,7 @@ use Rattle.card.specs.declared.Answer.{Answer}
 use Rattle.card.specs.declared.Line.{Line}
 use Rattle.card.specs.declared.Lined.{Lined}
 use Rattle.card.specs.declared.Report.{Report}
-use Rattle.card.specs.Plan.{Plan, guard, need, ended, doIt, refused, done}
+use Rattle.card.specs.Plan.{Plan, guard, need, ended, goAhead, refused, done}
 use Rattle.card.specs.Files.{filesOf, runAt, contentOf, getPlan, getEnd, lineEnd, noLine}
 use Rattle.card.specs.Sound.{shapeOk, sound}
 use Rattle.card.specs.Reading.{filesIn, filesShown, pageShown, readPlan, read, readLine, readGet}
@@ -80,11 +80,11 @@ plan-go img z y p = rw (z, y)
 module _ (img : List ℕ) {s : Bool} (e : s ≡ shapeOk img) (n : not s ≡ true) where
   pub shape-read : {r : Report} → r ≡ noReport 1 → r ≡ read img
   unfolding read noReport guard ended
-  shape-read f = rw (plan-shape img e n (doIt 0 0)) f
+  shape-read f = rw (plan-shape img e n goAhead) f
 
   pub shape-line : (i : ℕ) {r : Lined} → r ≡ noLined 1 → r ≡ readLine img i
   unfolding readLine lineEnd noLined guard ended
-  shape-line i f = rw (plan-shape img e n (doIt 0 0)) f
+  shape-line i f = rw (plan-shape img e n goAhead) f
 
   pub shape-get : (name out : List ℕ) {a : Answer} → a ≡ refused 1 → IsGot a out (readGet img name out)
   unfolding readGet getEnd guard ended
@@ -95,11 +95,11 @@ module _ (img : List ℕ) {s : Bool} (e : s ≡ shapeOk img) (n : not s ≡ true
 module _ (img : List ℕ) {s t : Bool} (e : s ≡ shapeOk img) (n : not s ≡ false) (f : t ≡ sound img) (m : not t ≡ true) where
   pub sound-read : {r : Report} → r ≡ noReport 2 → r ≡ read img
   unfolding read noReport guard ended
-  sound-read k = rw (plan-sound img e n f m (doIt 0 0)) k
+  sound-read k = rw (plan-sound img e n f m goAhead) k
 
   pub sound-line : (i : ℕ) {r : Lined} → r ≡ noLined 2 → r ≡ readLine img i
   unfolding readLine lineEnd noLined guard ended
-  sound-line i k = rw (plan-sound img e n f m (doIt 0 0)) k
+  sound-line i k = rw (plan-sound img e n f m goAhead) k
 
   pub sound-get : (name out : List ℕ) {a : Answer} → a ≡ refused 2 → IsGot a out (readGet img name out)
   unfolding readGet getEnd guard ended
@@ -122,7 +122,7 @@ module _ (img : List ℕ) (shape : shapeOk img ≡ true) (ok : sound img ≡ tru
       let a : C ≡ wordAt (sec img 0) 0 = p ∙ sym (head-word img (shape-length img shape)) in
       let b : n ≡ length (filesShown img) = q ∙ ap length files in
       let c : m ≡ clearBits (pageIn (geoOf (sec img)) (tableOf (geoOf (sec img)) (sec img)) (sec img)) = rw (tab, e) at r in
-      rw (plan-go img shape ok (doIt 0 0), a, o, b, c, e)
+      rw (plan-go img shape ok goAhead, a, o, b, c, e)
 
   pub line-done : (i : ℕ) {n o : ℕ} {a : Answer} {l : Line} → n ≡ length (filesOf (tableIn g v (sec img)) (entriesOf g (sec img))) → o ≡ bit (ltb i n) → a ≡ done o
       → l ≡ getD (filesOf (tableIn g v (sec img)) (entriesOf g (sec img))) i noLine → record { answer = a; line = l } ≡ readLine img i
@@ -130,7 +130,7 @@ module _ (img : List ℕ) (shape : shapeOk img ≡ true) (ok : sound img ≡ tru
   line-done i {n} {o} {a} {l} p q r s =
       let x : a ≡ done (bit (ltb i (length (filesShown img)))) = r ∙ ap done (q ∙ ap (λ (k : ℕ). bit (ltb i k)) (p ∙ ap length files)) in
       let y : l ≡ getD (filesShown img) i noLine = s ∙ ap (λ (k : List Line). getD k i noLine) files in
-      rw (plan-go img shape ok (doIt 0 0), x, y)
+      rw (plan-go img shape ok goAhead, x, y)
 
   pub get-done : (name out : List ℕ) {a : Answer} {x : List ℕ} → IsGot a x (getIn g (tableIn g v (sec img)) img name out) → IsGot a x (readGet img name out)
   unfolding readGet getIn

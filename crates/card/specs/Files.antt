@@ -15,7 +15,7 @@ use Rattle.entries.specs.Entries.{shown, nameBytes, goodName, Piece, piecesOf}
 use Rattle.directory.specs.Directory.{entriesOf, named}
 use Rattle.card.specs.declared.Line.{Line}
 use Rattle.card.specs.declared.Lined.{Lined}
-use Rattle.card.specs.Plan.{Plan, guard, need, ended, doIt, refused, done, Got, Listed}
+use Rattle.card.specs.Plan.{Plan, guard, need, ended, goAhead, doAt, refused, done, Got, Listed}
 
 -- the line of an entry that shows a version, where it is present
 unfoldable pub consFile : List ℕ → Version → List Line → List Line
@@ -80,7 +80,7 @@ runAt g tab img j = runOf (shown tab (getD (entriesOf g (sec img)) j []))
 unfoldable pub getPlan : Geo → List ℕ → List ℕ → List ℕ → List ℕ → Plan
 getPlan g tab img n out =
     guard 5 (goodName n) (need 6 (firstAt (named tab tab n) 0 (entriesOf g (sec img)))
-    (λ j. guard 10 (leb (runAt g tab img j .bytes) (length out)) (doIt j 0)))
+    (λ j. guard 10 (leb (runAt g tab img j .bytes) (length out)) (doAt j)))
 
 -- "Get fills the first bytes of the output and leaves the rest."
 unfoldable pub getEnd : Geo → List ℕ → List ℕ → List ℕ → Plan → Got
@@ -90,7 +90,7 @@ getEnd g tab img out p =
 
 -- "list .. 10", for a lent table of `room` lines
 unfoldable pub listPlan : List Line → ℕ → Plan
-listPlan files room = guard 10 (leb (length files) room) (doIt 0 0)
+listPlan files room = guard 10 (leb (length files) room) goAhead
 
 -- "List fills a lent table of lines, one line a file, in entry order ..; later lines stay."
 unfoldable pub listEnd : List Line → List Line → Plan → Listed

@@ -15,7 +15,7 @@ use Rattle.card.specs.declared.Line.{Line}
 use Rattle.card.specs.declared.Answer.{Answer}
 use Rattle.card.specs.declared.Lined.{Lined}
 use Rattle.card.specs.declared.Report.{Report}
-use Rattle.card.specs.Plan.{guard, doIt, refused, Got}
+use Rattle.card.specs.Plan.{guard, doAt, refused, Got}
 
 -- every entry shows a run that is well formed
 abbrev pub RunsOk : Geo → List ℕ → List (List ℕ) → Type 0
@@ -35,7 +35,7 @@ IsGot r x q = (r ≡ q .answer) × (x ≡ q .out)
 
 -- what get leaves once an entry is found
 unfoldable pub getAt : Geo → List ℕ → List ℕ → List ℕ → ℕ → Got
-getAt g tab img out j = getEnd g tab img out (guard 10 (leb (runAt g tab img j .bytes) (length out)) (doIt j 0))
+getAt g tab img out j = getEnd g tab img out (guard 10 (leb (runAt g tab img j .bytes) (length out)) (doAt j))
 
 unfoldable pub getIn : Geo → List ℕ → List ℕ → List ℕ → List ℕ → Got
 getIn g tab img n out = getEnd g tab img out (getPlan g tab img n out)

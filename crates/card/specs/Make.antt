@@ -12,7 +12,7 @@ use Rattle.counts.specs.Geometry.{gP, geoOk, pairLow, pairHigh}
 use Rattle.apages.specs.declared.Index.{Index}
 use Rattle.apages.specs.Runs.{freshPage}
 use Rattle.apages.specs.Index.{groupBytes}
-use Rattle.card.specs.Plan.{Plan, guard, ended, doIt, refused, done, Changed}
+use Rattle.card.specs.Plan.{Plan, guard, ended, goAhead, refused, done, Changed}
 
 -- "transaction block: words C (crash count), S, T, D; the rest 0"
 unfoldable pub blockBytes : ℕ → Geo → List ℕ
@@ -47,7 +47,7 @@ freshCard g = freshPages g 0 (gP g) (setSec (setSec (replicate (512 * g .s) 0) 0
 
 -- "make 1"
 unfoldable pub makePlan : Geo → List ℕ → Plan
-makePlan g card = guard 1 (geoOk g && eqb (length card) (512 * g .s)) (doIt 0 0)
+makePlan g card = guard 1 (geoOk g && eqb (length card) (512 * g .s)) goAhead
 
 unfoldable pub make : Geo → List ℕ → Changed
 make g card =

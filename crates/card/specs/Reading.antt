@@ -11,7 +11,7 @@ use Rattle.apages.specs.Index.{pageIn}
 use Rattle.card.specs.declared.Line.{Line}
 use Rattle.card.specs.declared.Lined.{Lined}
 use Rattle.card.specs.declared.Report.{Report}
-use Rattle.card.specs.Plan.{Plan, guard, ended, doIt, Got, Listed}
+use Rattle.card.specs.Plan.{Plan, guard, ended, goAhead, Got, Listed}
 use Rattle.card.specs.Files.{filesOf, getPlan, getEnd, listPlan, listEnd, lineEnd}
 use Rattle.card.specs.Sound.{shapeOk, sound}
 
@@ -33,7 +33,7 @@ readPlan img p = guard 1 (shapeOk img) (guard 2 (sound img) p)
 -- "it gives C, N, the file count and the clear bits shown (1, 2)"
 unfoldable pub read : List ℕ → Report
 read img =
-    ended (readPlan img (doIt 0 0)) (λ k. record { number = k; c = record { 0 = 0 }; n = 0; files = 0; free = 0 })
+    ended (readPlan img goAhead) (λ k. record { number = k; c = record { 0 = 0 }; n = 0; files = 0; free = 0 })
     (λ j a. record { number = 0; c = record { 0 = countOf (sec img) }; n = gN (geoOf (sec img)); files = length (filesShown img); free = clearBits (pageShown img) })
 
 -- "its own list (1, 2, 10)"
@@ -42,7 +42,7 @@ readList img lines = listEnd (filesShown img) lines (readPlan img (listPlan (fil
 
 -- the line at a position (1, 2)
 unfoldable pub readLine : List ℕ → ℕ → Lined
-readLine img i = lineEnd (filesShown img) i (readPlan img (doIt 0 0))
+readLine img i = lineEnd (filesShown img) i (readPlan img goAhead)
 
 -- "and get (1, 2, 5, 6, 10) over the shown files"
 unfoldable pub readGet : List ℕ → List ℕ → List ℕ → Got

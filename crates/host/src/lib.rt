@@ -13,7 +13,7 @@
 // 0, and a barrier, behind which everything written has landed. Sync's are sector 0, the S - T - 1 sectors past the table in rising order, a barrier, the
 // table sector, a barrier; a sector that does not differ is not written. Unmount's are sync's, and then sector 0. Past the last place nothing happens.
 ghost use mathlib.Core.Path.{_≡_};
-ghost use Rattle.card.specs.Plan.{doIt};
+ghost use Rattle.card.specs.Plan.{goAhead};
 ghost use Rattle.card.specs.Make.{make};
 ghost use Rattle.card.specs.Reading.{read, readGet};
 ghost use Rattle.store.specs.Edit.{put, putAt, remove};
@@ -218,7 +218,7 @@ fn mount_number(card: &[u8], work: &[u8]) -> u32
 
 // The number of the first of tests 1 and 2 of sync and unmount that fails, else 0.
 fn both_number(s: Opened, card: &[u8], work: &[u8]) -> u32
-    ensures { λ r. ⌜ r ≡ planNumber (bothPlan s (now (card .entry)) (now (work .entry)) (doIt 0 0)) ⌝ }
+    ensures { λ r. ⌜ r ≡ planNumber (bothPlan s (now (card .entry)) (now (work .entry)) goAhead) ⌝ }
 {
     if card.len() != 512 * (s.geo.s as usize) {
         return 1;

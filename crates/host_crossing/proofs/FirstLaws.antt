@@ -9,12 +9,13 @@ use borrow.Author.Tests.{eq-eqb, ne-eqb, eqb-true, lt-ltb, le-ltb}
 use lib.Dec.{eqb, ltb}
 use lib.ListN.{length, take}
 use Rattle.words.proofs.BoolLaws.{never}
+use Rattle.sectors.specs.declared.Sector.{Sector}
 use Rattle.sectors.specs.Sectors.{sec, Step, applySteps}
 use Rattle.counts.specs.Geometry.{gN, geoOf, countOf}
 use Rattle.card.specs.declared.Answer.{Answer}
 use Rattle.card.specs.declared.Report.{Report}
-use Rattle.card.specs.Plan.{Plan, refuse, doIt, guard, ended, refused, done}
-use Rattle.card.proofs.PlanLaws.{Num, no!, go!, guard-no, guard-yes, guard-inv}
+use Rattle.card.specs.Plan.{Plan, refuse, doIt, goAhead, guard, ended, refused, done}
+use Rattle.card.proofs.PlanLaws.{Num, no!, go!, ahead!, guard-no, guard-yes, guard-inv}
 use Rattle.card.specs.Sound.{shapeOk, sound}
 use Rattle.card.specs.Reading.{readPlan, read}
 use Rattle.session.specs.declared.Opened.{Opened}
@@ -39,7 +40,7 @@ unfolding planNumber ended
 number-stop (refuse k) e h = ap refuse (sym e)
 number-stop (doIt j a) e h = absurd (h e)
 
-number-go : {p : Plan} {n : ℕ} → Num p → n ≡ planNumber p → n ≡ 0 → (j : ℕ) × (a : ℕ) × (p ≡ doIt j a)
+number-go : {p : Plan} {n : ℕ} → Num p → n ≡ planNumber p → n ≡ 0 → (j : ℕ) × (a : Sector) × (p ≡ doIt j a)
 unfolding planNumber ended
 number-go (no! k) e h = absurd (omega arith)
 number-go (go! j a) e h = (j, a, refl)
@@ -50,7 +51,7 @@ first-stop : {p : Plan} (card : List ℕ) (n : ℕ) (steps : List Step) (w k : �
 unfolding firstOf ended
 first-stop card n steps w k e f = leaves _ (ap (λ (p : Plan). firstOf p card n steps w) e) f refl
 
-first-done : {p : Plan} (card : List ℕ) (n : ℕ) (steps : List Step) (w : ℕ) {j a : ℕ} {r : Answer} {x : List ℕ} → p ≡ doIt j a → r ≡ done w → x ≡ applySteps (take n steps) card
+first-done : {p : Plan} (card : List ℕ) (n : ℕ) (steps : List Step) (w : ℕ) {j : ℕ} {a : Sector} {r : Answer} {x : List ℕ} → p ≡ doIt j a → r ≡ done w → x ≡ applySteps (take n steps) card
     → Leaves (firstOf p card n steps w) r x
 unfolding firstOf ended
 first-done card n steps w e f h = leaves _ (ap (λ (p : Plan). firstOf p card n steps w) e) f h
@@ -58,9 +59,9 @@ first-done card n steps w e f h = leaves _ (ap (λ (p : Plan). firstOf p card n 
 -- ---- mount's tests: a report gives 1, 2, C and N
 
 -- tests 1 and 2 as a report has them, before a third
-third : (a b c : Bool) (d : Report) {r : Report} → d .number ≡ 0 → r ≡ ended (guard 1 a (guard 2 b (doIt 0 0))) (λ k. record { number = k; c = record { 0 = 0 }; n = 0; files = 0; free = 0 }) (λ j i. d)
-    → (r .number ≢ 0 → r .number ≡ planNumber (guard 1 a (guard 2 b (guard 3 c (doIt 0 0)))))
-    × (r .number ≡ 0 → (r ≡ d) × (planNumber (guard 1 a (guard 2 b (guard 3 c (doIt 0 0)))) ≡ planNumber (guard 3 c (doIt 0 0))))
+third : (a b c : Bool) (d : Report) {r : Report} → d .number ≡ 0 → r ≡ ended (guard 1 a (guard 2 b goAhead)) (λ k. record { number = k; c = record { 0 = 0 }; n = 0; files = 0; free = 0 }) (λ j i. d)
+    → (r .number ≢ 0 → r .number ≡ planNumber (guard 1 a (guard 2 b (guard 3 c goAhead))))
+    × (r .number ≡ 0 → (r ≡ d) × (planNumber (guard 1 a (guard 2 b (guard 3 c goAhead))) ≡ planNumber (guard 3 c goAhead)))
 unfolding planNumber guard ended
 third true true c d z e = (λ h. absurd (h (ap (λ (r : Report). r .number) e ∙ z)), λ h. (e, refl))
 third true false c d z e = (λ h. ap (λ (r : Report). r .number) e, λ h. absurd (omega (arith, ap (λ (r : Report). r .number) e)))
@@ -84,7 +85,7 @@ module _ (card work : List ℕ) where
     left = ltb (countOf (sec card)) (gN (geoOf (sec card)))
 
     both : (r .number ≢ 0 → r .number ≡ planNumber (mountPlan card work))
-        × (r .number ≡ 0 → (r .c .0 ≡ countOf (sec card)) × (r .n ≡ gN (geoOf (sec card))) × (planNumber (mountPlan card work) ≡ planNumber (guard 3 left (doIt 0 0))))
+        × (r .number ≡ 0 → (r .c .0 ≡ countOf (sec card)) × (r .n ≡ gN (geoOf (sec card))) × (planNumber (mountPlan card work) ≡ planNumber (guard 3 left goAhead)))
     unfolding mountPlan read readPlan
     both =
         let (x, y) = third (shapeOk card) (sound card) left _ refl e in
@@ -125,23 +126,23 @@ module _ (card work : List ℕ) where
 -- ---- the tests 1 and 2 of sync and unmount as one number
 
 module _ (s : Opened) (card work : List ℕ) where
-  pub both-number-1 : (length card ≡ 512 * s .geo .s → ⊥) → 1 ≡ planNumber (bothPlan s card work (doIt 0 0))
+  pub both-number-1 : (length card ≡ 512 * s .geo .s → ⊥) → 1 ≡ planNumber (bothPlan s card work goAhead)
   unfolding planNumber ended
   both-number-1 d = sym (ap planNumber (both-1 s card work _ d))
 
-  pub both-number-2 : length card ≡ 512 * s .geo .s → fits s work ≡ false → 2 ≡ planNumber (bothPlan s card work (doIt 0 0))
+  pub both-number-2 : length card ≡ 512 * s .geo .s → fits s work ≡ false → 2 ≡ planNumber (bothPlan s card work goAhead)
   unfolding planNumber ended
   both-number-2 d z = sym (ap planNumber (both-2 s card work _ d z))
 
-  pub both-number-0 : length card ≡ 512 * s .geo .s → fits s work ≡ true → 0 ≡ planNumber (bothPlan s card work (doIt 0 0))
+  pub both-number-0 : length card ≡ 512 * s .geo .s → fits s work ≡ true → 0 ≡ planNumber (bothPlan s card work goAhead)
   unfolding planNumber ended
   both-number-0 d z = sym (ap planNumber (both-ok s card work _ d z))
 
-  module _ {n : ℕ} (e : n ≡ planNumber (bothPlan s card work (doIt 0 0))) where
+  module _ {n : ℕ} (e : n ≡ planNumber (bothPlan s card work goAhead)) where
     pub both-passed : n ≡ 0 → (length card ≡ 512 * s .geo .s) × (fits s work ≡ true)
     unfolding bothPlan
     both-passed z =
-        let (j, a, q) = number-go (both-num s card work (go! 0 0)) e z in
+        let (j, a, q) = number-go (both-num s card work ahead!) e z in
         let (x, p) = guard-inv 1 _ _ q in
         (eqb-true _ _ x, guard-inv 2 _ _ p .0)
 
@@ -149,7 +150,7 @@ module _ (s : Opened) (card work : List ℕ) where
     unfolding bothPlan
     stopped p h = go (eqb (length card) (512 * s .geo .s)) (fits s work) (number-stop _ e h)
       where
-        go : (a b : Bool) → guard 1 a (guard 2 b (doIt 0 0)) ≡ refuse n → guard 1 a (guard 2 b p) ≡ refuse n
+        go : (a b : Bool) → guard 1 a (guard 2 b goAhead) ≡ refuse n → guard 1 a (guard 2 b p) ≡ refuse n
         go true true q = never (unfold guard in cc)
         go true false q = unfold guard in q
         go false b q = unfold guard in q

@@ -6,12 +6,13 @@ use mathlib.Core.Logic.{_≢_}
 use Prim.Native.Nat.{ℕ, _+_, _≤_, _<_}
 use native.Mathlib.Omega.{arith}
 use borrow.Author.Tests.{eq-eqb, ne-eqb}
+use Rattle.sectors.specs.declared.Sector.{Sector}
 use Rattle.sectors.specs.Sectors.{sec}
 use Rattle.counts.specs.Geometry.{gN, geoOk, geoOf}
 use Rattle.counts.proofs.GeoLaws.{limits, table-inv}
 use Rattle.counts.specs.Stamps.{maxTx}
 use Rattle.card.specs.Plan.{doIt, refused, done}
-use Rattle.card.proofs.PlanLaws.{go!, guard-num, passing}
+use Rattle.card.proofs.PlanLaws.{ahead!, guard-num, passing}
 use Rattle.card.specs.Sound.{sound}
 use Rattle.card.proofs.SoundLaws.{shape-inv, sound-inv}
 use Rattle.session.specs.declared.Opened.{Opened}
@@ -49,7 +50,7 @@ small o ok c t =
       ofTx = omega (arith, t);
     }
 
-mount-words : (card work : List ℕ) (j a : ℕ) → mountPlan card work ≡ doIt j a → InWords (openedFrom card)
+mount-words : (card work : List ℕ) (j : ℕ) (a : Sector) → mountPlan card work ≡ doIt j a → InWords (openedFrom card)
 unfolding openedFrom sound
 mount-words card work j a h =
     let (x, y) = mount-good card work j a h in
@@ -73,7 +74,7 @@ sync-over : (z : Session) (b card work : List ℕ) → decoded b ≡ z → decod
 unfolding sync syncDone refused done
 sync-over Closed b card work h = ap decoded (kept-refused _ b (λ e. absurd (omega arith))) ∙ h
 sync-over (Open s) b card work h =
-    passing (λ (r : Ended). decoded (kept r b) ≡ r .session) _ _ (both-num s card work (guard-num 8 _ (go! 0 0))) (λ k. ap decoded (kept-refused _ b (λ e. absurd (omega arith))) ∙ h)
+    passing (λ (r : Ended). decoded (kept r b) ≡ r .session) _ _ (both-num s card work (guard-num 8 _ ahead!)) (λ k. ap decoded (kept-refused _ b (λ e. absurd (omega arith))) ∙ h)
     (λ j a e. ap decoded (kept-done _ b refl) ∙ opened-back (grown (atTop s) s) (grown-words s work (atTop s) (sync-live s card work e .0)))
 
 -- after store_sync, refused or not
@@ -84,7 +85,7 @@ unmount-over : (z : Session) (b card work : List ℕ) → decoded b ≡ z → de
 unfolding unmount unmountDone refused done
 unmount-over Closed b card work h = ap decoded (kept-refused _ b (λ e. absurd (omega arith))) ∙ h
 unmount-over (Open s) b card work h =
-    passing (λ (r : Ended). decoded (kept r b) ≡ r .session) _ _ (both-num s card work (go! 0 0)) (λ k. ap decoded (kept-refused _ b (λ e. absurd (omega arith))) ∙ h)
+    passing (λ (r : Ended). decoded (kept r b) ≡ r .session) _ _ (both-num s card work ahead!) (λ k. ap decoded (kept-refused _ b (λ e. absurd (omega arith))) ∙ h)
     (λ j a e. ap decoded (kept-done _ b refl) ∙ closed-back)
 
 -- after store_unmount, refused or not

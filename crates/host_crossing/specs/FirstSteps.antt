@@ -5,7 +5,7 @@ use mathlib.Core.List.{List, []}
 use Prim.Native.Nat.{ℕ}
 use lib.ListN.{take}
 use Rattle.sectors.specs.Sectors.{Step, applySteps}
-use Rattle.card.specs.Plan.{Plan, guard, ended, doIt, refused, done, Changed}
+use Rattle.card.specs.Plan.{Plan, guard, ended, goAhead, refused, done, Changed}
 use Rattle.session.specs.declared.Session.{Session}
 use Rattle.session.specs.declared.Session.the-variants.{Closed, Open}
 use Rattle.store.specs.Steps.{mountSteps, syncSteps, unmountSteps, syncedAt, downAt, writtenAt, countedAt}
@@ -28,10 +28,10 @@ mountFirst card work k = firstOf (mountPlan card work) card k (mountSteps card) 
 unfoldable pub syncFirst : Session → List ℕ → List ℕ → ℕ → Changed
 syncFirst Closed card work k = record { answer = refused 4; image = card }
 syncFirst (Open s) card work k =
-    firstOf (bothPlan s card work (guard 9 (not (s .worn)) (doIt 0 0))) card (syncedAt s card work k) (syncSteps s card work []) (writtenAt s card work k)
+    firstOf (bothPlan s card work (guard 9 (not (s .worn)) goAhead)) card (syncedAt s card work k) (syncSteps s card work []) (writtenAt s card work k)
 
 -- "unmount 4, 1, 2", then those of its steps that stand at its first k places, and how many sectors its sync writes there
 unfoldable pub unmountFirst : Session → List ℕ → List ℕ → ℕ → Changed
 unmountFirst Closed card work k = record { answer = refused 4; image = card }
 unmountFirst (Open s) card work k =
-    firstOf (bothPlan s card work (doIt 0 0)) card (downAt s card work k) (unmountSteps s card work) (countedAt (s .worn) s card work k)
+    firstOf (bothPlan s card work goAhead) card (downAt s card work k) (unmountSteps s card work) (countedAt (s .worn) s card work k)

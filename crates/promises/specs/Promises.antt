@@ -5,6 +5,7 @@ use mathlib.Core.Bool.{false}
 use mathlib.Core.List.{List, [], _∷_}
 use Prim.Native.Nat.{ℕ, _+_}
 use lib.ListN.{length, take}
+use Rattle.sectors.specs.declared.Sector.{Sector}
 use Rattle.sectors.specs.Sectors.{Step, applySteps}
 use Rattle.entries.specs.declared.Version.the-variants.{Absent, Present}
 use Rattle.card.specs.Plan.{doIt}
@@ -60,9 +61,9 @@ pub record Promises : Type 1 where
   pub putPlaces : PutPlaces
   pub removePlaces : RemovePlaces
   pub putLeaves : (s : Opened) (work n d : List ℕ) (goal : ℕ) → putAt (Open s) work n d goal .answer .number ≡ 0
-      → (j : ℕ) × (a : ℕ) × (putPlan s work n d goal ≡ doIt j a) × Untouched s j (Present (putRun a d)) work n d (putAt (Open s) work n d goal .image)
+      → (j : ℕ) × (a : Sector) × (putPlan s work n d goal ≡ doIt j a) × Untouched s j (Present (putRun a d)) work n d (putAt (Open s) work n d goal .image)
   pub removeLeaves : (s : Opened) (work n : List ℕ) → remove (Open s) work n .answer .number ≡ 0
-      → (j : ℕ) × (a : ℕ) × (removePlan s work n ≡ doIt j a) × Untouched s j Absent work n [] (remove (Open s) work n .image)
+      → (j : ℕ) × (a : Sector) × (removePlan s work n ≡ doIt j a) × Untouched s j Absent work n [] (remove (Open s) work n .image)
   pub putPairs : PutPairs
   pub removePairs : RemovePairs
   pub mountLeaves : MountChanges

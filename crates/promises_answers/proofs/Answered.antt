@@ -168,7 +168,7 @@ module _ (s : Opened) (j a k : ℕ) (v : Version) (work n d : List ℕ) (k₀ : 
   gone-now e =
       list-now ∙ ap (λ (l : List Item). listOf tp work (take j es) ++ l) (list-absent tp after x (drop (suc j) es) (new-shown ∙ e) ∙ keep-after) ∙ sym list-old
 
-  pub added-now : v ≡ Present (putRun a d) → k ≡ sectorsFor (length d) → With n d (shownIn (Open s) work) (shownIn (Open s) after)
+  pub added-now : v ≡ Present (putRun (record { 0 = a }) d) → k ≡ sectorsFor (length d) → With n d (shownIn (Open s) work) (shownIn (Open s) after)
   added-now e q =
       record {
         before = listOf tp work (take j es);
@@ -177,18 +177,18 @@ module _ (s : Opened) (j a k : ℕ) (v : Version) (work n d : List ℕ) (k₀ : 
         becomes = list-now ∙ ap (λ (l : List Item). listOf tp work (take j es) ++ l) (list-present tp after x (drop (suc j) es) (new-shown ∙ e) ∙ rw (new-name, text, keep-after));
       }
     where
-      in-run : (i : ℕ) → FileHolds (putRun a d) i → (a ≤ i) × (i < a + k)
-      in-run i h = rw q (unfold putRun in holds-run (putRun a d) i .0 h)
+      in-run : (i : ℕ) → FileHolds (putRun (record { 0 = a }) d) i → (a ≤ i) × (i < a + k)
+      in-run i h = rw q (unfold putRun in holds-run (putRun (record { 0 = a }) d) i .0 h)
 
-      whole : contentOf after (putRun a d) ≡ contentOf (putContent (runOf v) d work) (putRun a d)
+      whole : contentOf after (putRun (record { 0 = a }) d) ≡ contentOf (putContent (runOf v) d work) (putRun (record { 0 = a }) d)
       whole =
-          content-same after (putContent (runOf v) d work) (putRun a d)
+          content-same after (putContent (runOf v) d work) (putRun (record { 0 = a }) d)
           (λ i h. data-put s j a k v work n d k₀ R i (R .inside i (in-run i h .0) (in-run i h .1)))
 
-      there : contentOf (putContent (runOf v) d work) (putRun a d) ≡ take (length d) (drop (512 * a) (putContent (runOf v) d work))
-      there = unfold putRun in content-run (putContent (runOf v) d work) (putRun a d) (rw (← q) (R .enough))
+      there : contentOf (putContent (runOf v) d work) (putRun (record { 0 = a }) d) ≡ take (length d) (drop (512 * a) (putContent (runOf v) d work))
+      there = unfold putRun in content-run (putContent (runOf v) d work) (putRun (record { 0 = a }) d) (rw (← q) (R .enough))
 
-      text : contentOf after (putRun a d) ≡ d
+      text : contentOf after (putRun (record { 0 = a }) d) ≡ d
       text =
           whole ∙ there ∙ ap (λ (i : ℕ). take (length d) (drop (512 * i) (putContent (runOf v) d work))) (sym (R .is .0))
           ∙ put-back (runOf v) (g .s) d work (R .fit .sized) (rw (R .is .0, R .is .1) (R .fits)) (rw (R .is .1) (R .enough))

@@ -8,6 +8,7 @@ use native.Mathlib.Omega.{arith}
 use lib.ListN.{length}
 use Rattle.words.specs.declared.Found.the-variants.{At}
 use Rattle.words.specs.Lists.{pairwise, firstAt}
+use Rattle.sectors.specs.declared.Sector.{Sector}
 use Rattle.sectors.specs.Sectors.{sec}
 use Rattle.counts.specs.Geometry.{gN}
 use Rattle.entries.specs.declared.Version.the-variants.{Absent, Present}
@@ -37,8 +38,8 @@ use Rattle.promises_answers.specs.Answers.{PutAnswers, RemoveAnswers}
 
 -- ---- a plan that goes through: what `Answered` asks for
 
-pub done-plan : {p : Plan} (image : List ℕ) (h : ℕ → ℕ → Changed) → Num p → ended p (λ k. record { answer = refused k; image = image }) h .answer .number ≡ 0
-    → (j : ℕ) × (a : ℕ) × (p ≡ doIt j a)
+pub done-plan : {p : Plan} (image : List ℕ) (h : ℕ → Sector → Changed) → Num p → ended p (λ k. record { answer = refused k; image = image }) h .answer .number ≡ 0
+    → (j : ℕ) × (a : Sector) × (p ≡ doIt j a)
 unfolding ended refused
 done-plan image h (no! k) e = absurd (omega arith)
 done-plan image h (go! j a) e = (j, a, refl)
@@ -67,18 +68,18 @@ module _ (s : Opened) (work : List ℕ) (F : Fit s work) (live : s .worn ≡ fal
       let w = run-clear k goal a _ _ (wp ∙ sym wc) (run-live k goal a e) i lo hi in
       clear-bit (s .geo) (s .c .0) (tpOf s work) (sec work) (F .shape) (pres s work F live) wp i (omega (arith, w .2, wp)) (w .0) .1
 
-put-open : (s : Opened) (work n d : List ℕ) (goal j a : ℕ) → putPlan s work n d goal ≡ doIt j a → With n d (shownIn (Open s) work) (shownIn (Open s) (putWork s j a work n d))
+put-open : (s : Opened) (work n d : List ℕ) (goal j : ℕ) (a : Sector) → putPlan s work n d goal ≡ doIt j a → With n d (shownIn (Open s) work) (shownIn (Open s) (putWork s j a work n d))
 unfolding putWork
 put-open s work n d goal j a h =
     let p = put-inv s work n d goal j a h in
     let F = fit-inv s work (p .fit) in
     let e = place-live s work F (p .live) n j (p .entry) in
-    added-now s j a (sectorsFor (length d)) (Present (putRun a d)) work n d (sec work) (put-ready s work (sec work) refl n d goal j a h)
+    added-now s j (a .0) (sectorsFor (length d)) (Present (putRun a d)) work n d (sec work) (put-ready s work (sec work) refl n d goal j a h)
     (place-alone (tpOf s work) (tcOf s work) n (entriesOf (s .geo) (sec work)) j (apart-live s work F (p .live)) e)
     (named-live s work F (p .live) n j (place-named (tpOf s work) (tcOf s work) n (entriesOf (s .geo) (sec work)) j e))
-    (run-free s work F (p .live) (sectorsFor (length d)) goal a (p .run)) refl refl
+    (run-free s work F (p .live) (sectorsFor (length d)) goal (a .0) (p .run)) refl refl
 
-remove-open : (s : Opened) (work n : List ℕ) (j a : ℕ) → removePlan s work n ≡ doIt j a → shownIn (Open s) (removeWork s j work n) ≡ without n (shownIn (Open s) work)
+remove-open : (s : Opened) (work n : List ℕ) (j : ℕ) (a : Sector) → removePlan s work n ≡ doIt j a → shownIn (Open s) (removeWork s j work n) ≡ without n (shownIn (Open s) work)
 unfolding removeWork
 remove-open s work n j a h =
     let p = remove-inv s work n j a h in

@@ -4,6 +4,7 @@ use mathlib.Core.Bool.{true}
 use mathlib.Core.List.{List, []}
 use Prim.Native.Nat.{ℕ, _+_, _*_, _≤_, _<_}
 use lib.ListN.{length, getD}
+use Rattle.sectors.specs.declared.Sector.{Sector}
 use Rattle.sectors.specs.Sectors.{sec}
 use Rattle.counts.specs.Geometry.{gN, gF, geoOk, countOf, tableOf}
 use Rattle.counts.specs.Stamps.{maxTx}
@@ -64,10 +65,10 @@ module _ (s : Opened) (img₀ : List ℕ) (B : Base s img₀) (work : List ℕ) 
   left : (j a k : ℕ) (v : Version) (n d : List ℕ) → Ready s j a k v work n d (sec img₀) → Kept (editWork s j v work n d)
   left j a k v n d R = record { sized = edit-length s j a k v work n d (sec img₀) R; keeps = change-keeps j a k v n d R }
 
-  pub remove-left : (n : List ℕ) (j a : ℕ) → removePlan s work n ≡ doIt j a → Kept (removeWork s j work n)
+  pub remove-left : (n : List ℕ) (j : ℕ) (a : Sector) → removePlan s work n ≡ doIt j a → Kept (removeWork s j work n)
   unfolding removeWork
   remove-left n j a h = left j 0 0 Absent n [] (remove-ready s work (sec img₀) same-files n j a h)
 
-  pub put-left : (n d : List ℕ) (goal j a : ℕ) → putPlan s work n d goal ≡ doIt j a → Kept (putWork s j a work n d)
+  pub put-left : (n d : List ℕ) (goal j : ℕ) (a : Sector) → putPlan s work n d goal ≡ doIt j a → Kept (putWork s j a work n d)
   unfolding putWork
-  put-left n d goal j a h = left j a (sectorsFor (length d)) (Present (putRun a d)) n d (put-ready s work (sec img₀) same-files n d goal j a h)
+  put-left n d goal j a h = left j (a .0) (sectorsFor (length d)) (Present (putRun a d)) n d (put-ready s work (sec img₀) same-files n d goal j a h)

@@ -8,6 +8,7 @@ use lib.ListN.{length, length-take, length-drop}
 use Rattle.words.specs.declared.Found.the-variants.{At}
 use Rattle.words.specs.Lists.{pad}
 use Rattle.words.specs.Bytes.{wordAt}
+use Rattle.sectors.specs.declared.Sector.{Sector}
 use Rattle.sectors.specs.Sectors.{Cells, sec}
 use Rattle.counts.specs.Geometry.{gN}
 use Rattle.entries.specs.declared.Version.the-variants.{Absent, Present}
@@ -48,7 +49,7 @@ module _ (s : Opened) (work : List ℕ) (k₀ : Cells) (same-files : filesIn (s 
       name-wide : length (entryAt s j work) ≡ 128 → length (nameBytes (entryAt s j work)) ≡ 32
       name-wide l = unfold nameBytes in simp (length-take, length-drop) (omega arith)
 
-  pub remove-ready : (n : List ℕ) (j a : ℕ) → removePlan s work n ≡ doIt j a → Ready s j 0 0 Absent work n [] k₀
+  pub remove-ready : (n : List ℕ) (j : ℕ) (a : Sector) → removePlan s work n ≡ doIt j a → Ready s j 0 0 Absent work n [] k₀
   remove-ready n j a h =
       let p = remove-inv s work n j a h in
       let F = fit-inv s work (p .fit) in
@@ -68,7 +69,7 @@ module _ (s : Opened) (work : List ℕ) (k₀ : Cells) (same-files : filesIn (s 
         clear = λ i lo hi. absurd (omega arith);
       }
 
-  pub put-ready : (n d : List ℕ) (goal j a : ℕ) → putPlan s work n d goal ≡ doIt j a → Ready s j a (sectorsFor (length d)) (Present (putRun a d)) work n d k₀
+  pub put-ready : (n d : List ℕ) (goal j : ℕ) (a : Sector) → putPlan s work n d goal ≡ doIt j a → Ready s j (a .0) (sectorsFor (length d)) (Present (putRun a d)) work n d k₀
   put-ready n d goal j a h =
       let p = put-inv s work n d goal j a h in
       let F = fit-inv s work (p .fit) in
@@ -76,22 +77,22 @@ module _ (s : Opened) (work : List ℕ) (k₀ : Cells) (same-files : filesIn (s 
       let wc = page-wide (s .geo) (gN (s .geo)) (tcOf s work) work (F .shape) (F .sized) (cut s work F (p .live)) in
       let wp = page-wide (s .geo) (s .c .0) (tpOf s work) work (F .shape) (F .sized) (pres s work F (p .live)) in
       let run = rw (present-live s (sec work) (p .live)) at (open-run (p .run)) in
-      let r : (i : ℕ) → a ≤ i → i < a + sectorsFor (length d) → InData (s .geo) i × (cover (filesOf (tcOf s work) (entriesOf (s .geo) (sec work))) i ≡ 0) =
+      let r : (i : ℕ) → a .0 ≤ i → i < a .0 + sectorsFor (length d) → InData (s .geo) i × (cover (filesOf (tcOf s work) (entriesOf (s .geo) (sec work))) i ≡ 0) =
       λ i lo hi.
-      let w = run-clear (sectorsFor (length d)) goal a _ _ (wp ∙ sym wc) run i lo hi in
+      let w = run-clear (sectorsFor (length d)) goal (a .0) _ _ (wp ∙ sym wc) run i lo hi in
       clear-bit (s .geo) (gN (s .geo)) (tcOf s work) (sec work) (F .shape) (cut s work F (p .live)) wc i (omega (arith, w .2, wp)) (w .1) in
-      let f : a + sectorsFor (length d) ≤ s .geo .s = run-fits (sectorsFor (length d)) goal a (s .geo .s) _ _ run (λ i lo hi. r i lo hi .0 .1) in
+      let f : a .0 + sectorsFor (length d) ≤ s .geo .s = run-fits (sectorsFor (length d)) goal (a .0) (s .geo .s) _ _ run (λ i lo hi. r i lo hi .0 .1) in
       record {
         fit = F;
         live = p .live;
         below = N .below;
         short = short-name n (p .name);
-        good = good r f run (run-page (sectorsFor (length d)) goal a _ _ (wp ∙ sym wc) run);
+        good = good r f run (run-page (sectorsFor (length d)) goal (a .0) _ _ (wp ∙ sym wc) run);
         is = unfold runOf putRun in (refl, refl);
         named = named-is n j F (p .live) N;
         inside = λ i lo hi. r i lo hi .0 .0;
         fits = f;
-        page = run-page (sectorsFor (length d)) goal a _ _ (wp ∙ sym wc) run;
+        page = run-page (sectorsFor (length d)) goal (a .0) _ _ (wp ∙ sym wc) run;
         enough = enough;
         clear = λ i lo hi q. omega (arith, r i lo hi .1, held-cover _ i (still q));
       }
@@ -100,9 +101,9 @@ module _ (s : Opened) (work : List ℕ) (k₀ : Cells) (same-files : filesIn (s 
           → putPlace (presentTable s (sec work)) (tcOf s work) n (entriesOf (s .geo) (sec work)) ≡ At j
       open-place e = unfold placeIn cutTable in e
 
-      open-run : runIn s work (sectorsFor (length d)) goal ≡ At a
+      open-run : runIn s work (sectorsFor (length d)) goal ≡ At (a .0)
           → runFor (sectorsFor (length d)) goal (pageIn (s .geo) (presentTable s (sec work)) (sec work)) (pageIn (s .geo) (tcOf s work) (sec work))
-          ≡ At a
+          ≡ At (a .0)
       open-run e = unfold runIn presentPage cutPage cutTable in e
 
       enough : length d ≤ 512 * sectorsFor (length d)
@@ -111,10 +112,10 @@ module _ (s : Opened) (work : List ℕ) (k₀ : Cells) (same-files : filesIn (s 
       still : {i : ℕ} → Holds (filesIn (s .geo) k₀) i → Holds (filesOf (tcOf s work) (entriesOf (s .geo) (sec work))) i
       still q = unfold filesIn in rw (sym same-files) at q
 
-      good : ((i : ℕ) → a ≤ i → i < a + sectorsFor (length d) → InData (s .geo) i × (cover (filesOf (tcOf s work) (entriesOf (s .geo) (sec work))) i ≡ 0))
-          → a + sectorsFor (length d) ≤ s .geo .s
+      good : ((i : ℕ) → a .0 ≤ i → i < a .0 + sectorsFor (length d) → InData (s .geo) i × (cover (filesOf (tcOf s work) (entriesOf (s .geo) (sec work))) i ≡ 0))
+          → a .0 + sectorsFor (length d) ≤ s .geo .s
           → runFor (sectorsFor (length d)) goal (pageIn (s .geo) (tpOf s work) (sec work)) (pageIn (s .geo) (tcOf s work) (sec work))
-          ≡ At a
-          → a % 4096 + sectorsFor (length d) ≤ 4096
+          ≡ At (a .0)
+          → a .0 % 4096 + sectorsFor (length d) ≤ 4096
           → GoodVersion (s .geo) (Present (putRun a d))
-      good r f run page = unfold putRun in record { size = refl; span = λ l. (r a (omega arith) (omega arith) .0 .0, f); empty = λ z. run-for-none _ goal a _ _ run z; page = page }
+      good r f run page = unfold putRun in record { size = refl; span = λ l. (r (a .0) (omega arith) (omega arith) .0 .0, f); empty = λ z. run-for-none _ goal (a .0) _ _ run z; page = page }

@@ -106,7 +106,7 @@ module _ (s : Opened) (j a k : ℕ) (v : Version) (work n d : List ℕ) (R : Rea
 pub put-pairs : PutPairs
 unfolding putWork
 put-pairs s work n d goal j a h q l c =
-    edit-pairs s j a (sectorsFor (length d)) (Present (putRun a d)) work n d (put-ready s work (sec work) refl n d goal j a h) q l c
+    edit-pairs s j (a .0) (sectorsFor (length d)) (Present (putRun a d)) work n d (put-ready s work (sec work) refl n d goal j a h) q l c
 
 pub remove-pairs : RemovePairs
 unfolding removeWork

@@ -91,7 +91,7 @@ goes-to s work k goal a F e some = record {
 pub put-places : PutPlaces
 put-places s work n d goal j a h =
     let p = put-inv s work n d goal j a h in
-    (place-is s work n j (p .entry), λ some. goes-to s work (sectorsFor (length d)) goal a (fit-inv s work (p .fit)) (p .run) some)
+    (place-is s work n j (p .entry), λ some. goes-to s work (sectorsFor (length d)) goal (a .0) (fit-inv s work (p .fit)) (p .run) some)
 
 pub remove-places : RemovePlaces
 remove-places s work n j a h =

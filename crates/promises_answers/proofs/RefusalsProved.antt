@@ -3,6 +3,7 @@ use mathlib.Core.Path.{_≡_, refl}
 use mathlib.Core.List.{List}
 use mathlib.Core.Logic.{_≢_}
 use Prim.Native.Nat.{ℕ}
+use Rattle.sectors.specs.declared.Sector.{Sector}
 use Rattle.counts.specs.declared.Geo.{Geo}
 use Rattle.card.specs.declared.Line.{Line}
 use Rattle.card.specs.declared.Report.{Report}
@@ -20,7 +21,7 @@ use Rattle.store.specs.Look.{get, list, noFigures, figures, free}
 use Rattle.store.specs.Sync.{land, syncDone, sync, unmountDone, unmount}
 use Rattle.promises_answers.specs.Refusals.{Same, SameOut, SameLines, SameBoth, Refusals}
 
-refused-so : {A : Type 0} (num : A → ℕ) (P : A → Type 0) (f : ℕ → A) (h : ℕ → ℕ → A) → ((j a : ℕ) → num (h j a) ≡ 0) → ((k : ℕ) → P (f k))
+refused-so : {A : Type 0} (num : A → ℕ) (P : A → Type 0) (f : ℕ → A) (h : ℕ → Sector → A) → ((j : ℕ) (a : Sector) → num (h j a) ≡ 0) → ((k : ℕ) → P (f k))
     → (p : Plan) → num (ended p f h) ≢ 0 → P (ended p f h)
 unfolding ended
 refused-so num P f h z q (refuse k) n = q k

@@ -10,6 +10,7 @@ use lib.Dec.{leb, ltb, eqb}
 use Rattle.words.specs.declared.Found.{Found}
 use Rattle.words.specs.declared.Found.the-variants.{At, Nowhere}
 use Rattle.words.proofs.BoolLaws.{falsum, both, never}
+use Rattle.sectors.specs.declared.Sector.{Sector}
 use Rattle.card.specs.Plan.{Plan, refuse, doIt, guard, need, ended}
 use Rattle.session.specs.declared.Opened.{Opened}
 use Rattle.session.specs.declared.Session.the-variants.{Closed, Open}
@@ -43,7 +44,7 @@ numberOf (refuse k) = k
 numberOf (doIt j a) = 0
 
 -- what a call's answer says is what its plan comes to
-pub ended-number : {A : Type 0} (num : A → ℕ) (f : ℕ → A) (h : ℕ → ℕ → A) → ((k : ℕ) → num (f k) ≡ k) → ((j a : ℕ) → num (h j a) ≡ 0)
+pub ended-number : {A : Type 0} (num : A → ℕ) (f : ℕ → A) (h : ℕ → Sector → A) → ((k : ℕ) → num (f k) ≡ k) → ((j : ℕ) (a : Sector) → num (h j a) ≡ 0)
     → (p : Plan) → num (ended p f h) ≡ numberOf p
 unfolding ended numberOf
 ended-number num f h r d (refuse k) = r k
@@ -53,7 +54,7 @@ ended-number num f h r d (doIt j a) = d j a
 pub record Follows (rows : List Row) (p : Plan) : Type 0 where
   pub gives : Gives rows (numberOf p)
 
-pub done-row : {j a : ℕ} → Follows [] (doIt j a)
+pub done-row : {j : ℕ} {a : Sector} → Follows [] (doIt j a)
 unfolding numberOf
 done-row {j} {a} = record { gives = refl }
 

@@ -13,7 +13,7 @@ use Rattle.entries.specs.Entries.{goodName}
 use Rattle.directory.specs.Directory.{entriesOf, apart}
 use Rattle.apages.proofs.FreeLaws.{free-waiting}
 use Rattle.card.specs.declared.Line.{Line}
-use Rattle.card.specs.Plan.{Plan, guard, ended, doIt, done}
+use Rattle.card.specs.Plan.{Plan, guard, ended, goAhead, done}
 use Rattle.card.specs.Files.{filesOf, sectorsOf, getPlan, getEnd, listPlan, listEnd}
 use Rattle.card.proofs.SoundLaws.{View, view-inv, sound-inv, sound-view, shape-inv, shape-intro}
 use Rattle.card.proofs.SpaceLaws.{view-space, card-space}
@@ -138,7 +138,7 @@ module _ (card : List ℕ) (shape : shapeOk card ≡ true) (good : sound card �
   card-counts : (read card .number ≡ 0) × (read card .c .0 ≡ countOf (sec card)) × (read card .n ≡ gN (geoOf (sec card)))
       × (read card .files ≡ length (shownBy card)) × (read card .free + sectorsOf (filesShown card) + gF (geoOf (sec card)) ≡ geoOf (sec card) .s)
   unfolding read ended
-  card-counts = rw (read-is (doIt 0 0)) (refl, refl, refl, sym (lines-length card-told), card-space card shape good)
+  card-counts = rw (read-is goAhead) (refl, refl, refl, sym (lines-length card-told), card-space card shape good)
 
   pub card-shows : CardShows card
   card-shows =

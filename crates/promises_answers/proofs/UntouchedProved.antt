@@ -7,6 +7,7 @@ use native.Mathlib.Omega.{arith}
 use lib.ListN.{length, take, drop, getD, set}
 use Rattle.words.specs.Lists.{pad}
 use Rattle.words.proofs.SpliceLaws.{range-same}
+use Rattle.sectors.specs.declared.Sector.{Sector}
 use Rattle.sectors.specs.Sectors.{sec}
 use Rattle.sectors.proofs.FlatLaws.{flat-same}
 use Rattle.counts.specs.declared.Geo.{Geo}
@@ -101,16 +102,16 @@ module _ (s : Opened) (j a k : ℕ) (v : Version) (work n d : List ℕ) (R : Rea
 
 -- ---- put and remove
 
-pub put-untouched : (s : Opened) (work n d : List ℕ) (goal j a : ℕ) → putPlan s work n d goal ≡ doIt j a
+pub put-untouched : (s : Opened) (work n d : List ℕ) (goal j : ℕ) (a : Sector) → putPlan s work n d goal ≡ doIt j a
     → Untouched s j (Present (putRun a d)) work n d (putWork s j a work n d)
 unfolding putWork
 put-untouched s work n d goal j a h =
     let p = put-inv s work n d goal j a h in
-    edit-untouched s j a (sectorsFor (length d)) (Present (putRun a d)) work n d (put-ready s work (sec work) refl n d goal j a h)
+    edit-untouched s j (a .0) (sectorsFor (length d)) (Present (putRun a d)) work n d (put-ready s work (sec work) refl n d goal j a h)
     (unfold runOf in can-put s work n d goal j a (p .fit) (p .name) (p .entry) (p .run))
-    (run-free s work (fit-inv s work (p .fit)) (p .live) (sectorsFor (length d)) goal a (p .run))
+    (run-free s work (fit-inv s work (p .fit)) (p .live) (sectorsFor (length d)) goal (a .0) (p .run))
 
-pub remove-untouched : (s : Opened) (work n : List ℕ) (j a : ℕ) → removePlan s work n ≡ doIt j a → Untouched s j Absent work n [] (removeWork s j work n)
+pub remove-untouched : (s : Opened) (work n : List ℕ) (j : ℕ) (a : Sector) → removePlan s work n ≡ doIt j a → Untouched s j Absent work n [] (removeWork s j work n)
 unfolding removeWork
 remove-untouched s work n j a h =
     let p = remove-inv s work n j a h in
@@ -119,24 +120,24 @@ remove-untouched s work n j a h =
 
 -- ---- as the calls answer: 0 goes with an entry and a run, and the call leaves the image so changed
 
-put-leaves : (s : Opened) (work n d : List ℕ) (goal j a : ℕ) → putPlan s work n d goal ≡ doIt j a
+put-leaves : (s : Opened) (work n d : List ℕ) (goal j : ℕ) (a : Sector) → putPlan s work n d goal ≡ doIt j a
     → Untouched s j (Present (putRun a d)) work n d (putAt (Open s) work n d goal .image)
 unfolding putAt
 put-leaves s work n d goal j a h = rw h (unfold ended in put-untouched s work n d goal j a h)
 
-remove-leaves : (s : Opened) (work n : List ℕ) (j a : ℕ) → removePlan s work n ≡ doIt j a → Untouched s j Absent work n [] (remove (Open s) work n .image)
+remove-leaves : (s : Opened) (work n : List ℕ) (j : ℕ) (a : Sector) → removePlan s work n ≡ doIt j a → Untouched s j Absent work n [] (remove (Open s) work n .image)
 unfolding remove
 remove-leaves s work n j a h = rw h (unfold ended in remove-untouched s work n j a h)
 
 pub put-changes : (s : Opened) (work n d : List ℕ) (goal : ℕ) → putAt (Open s) work n d goal .answer .number ≡ 0
-    → (j : ℕ) × (a : ℕ) × (putPlan s work n d goal ≡ doIt j a) × Untouched s j (Present (putRun a d)) work n d (putAt (Open s) work n d goal .image)
+    → (j : ℕ) × (a : Sector) × (putPlan s work n d goal ≡ doIt j a) × Untouched s j (Present (putRun a d)) work n d (putAt (Open s) work n d goal .image)
 unfolding putAt
 put-changes s work n d goal h =
     let (j, a, e) = done-plan work (λ i b. record { answer = done 0; image = putWork s i b work n d }) (put-num s work n d goal) h in
     (j, a, e, put-leaves s work n d goal j a e)
 
 pub remove-changes : (s : Opened) (work n : List ℕ) → remove (Open s) work n .answer .number ≡ 0
-    → (j : ℕ) × (a : ℕ) × (removePlan s work n ≡ doIt j a) × Untouched s j Absent work n [] (remove (Open s) work n .image)
+    → (j : ℕ) × (a : Sector) × (removePlan s work n ≡ doIt j a) × Untouched s j Absent work n [] (remove (Open s) work n .image)
 unfolding remove
 remove-changes s work n h =
     let (j, a, e) = done-plan work (λ i b. record { answer = done 0; image = removeWork s i work n }) (remove-num s work n) h in

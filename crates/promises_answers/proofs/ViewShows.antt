@@ -16,6 +16,7 @@ use Rattle.words.proofs.BoolLaws.{both, falsum}
 use Rattle.words.proofs.EveryMore.{eqList-refl}
 use Rattle.words.proofs.EveryLaws.{every-all}
 use Rattle.words.proofs.FirstLaws.{found-at}
+use Rattle.sectors.specs.declared.Sector.{Sector}
 use Rattle.sectors.specs.Sectors.{sec}
 use Rattle.counts.specs.declared.Geo.{Geo}
 use Rattle.counts.specs.Geometry.{geoOk}
@@ -27,7 +28,7 @@ use Rattle.directory.specs.Directory.{entriesOf, apart, named}
 use Rattle.directory.proofs.SpotLaws.{entry-wide}
 use Rattle.directory.proofs.NameLaws.{named-true}
 use Rattle.card.specs.declared.Line.{Line}
-use Rattle.card.specs.Plan.{Plan, guard, need, ended, doIt, refused, done, Got}
+use Rattle.card.specs.Plan.{Plan, guard, need, ended, doAt, refused, done, Got}
 use Rattle.card.specs.Files.{filesOf, contentOf, runOf, runAt, getPlan, getEnd, listPlan, listEnd}
 use Rattle.card.proofs.SoundLaws.{View, entry-passes}
 use Rattle.card.specs.Means.{GoodName}
@@ -94,11 +95,11 @@ module _ (g : Geo) (bound : ℕ) (tab tc img : List ℕ) (ok : geoOk g ≡ true)
   abbrev kept : List ℕ → ℕ → Got
   kept out k = record { answer = refused k; out = out }
 
-  abbrev filled : List ℕ → ℕ → ℕ → Got
+  abbrev filled : List ℕ → ℕ → Sector → Got
   filled out j a = record { answer = done (runAt g tab img j .bytes); out = splice out 0 (contentOf img (runAt g tab img j)) }
 
   fill-or-10 : (out : List ℕ) (j : ℕ) → length (contentOf img (runAt g tab img j)) ≡ runAt g tab img j .bytes → (t : Bool) → leb (runAt g tab img j .bytes) (length out) ≡ t
-      → ended (guard 5 true (need 6 (At j) (λ i. guard 10 (leb (runAt g tab img i .bytes) (length out)) (doIt i 0)))) (kept out) (filled out)
+      → ended (guard 5 true (need 6 (At j) (λ i. guard 10 (leb (runAt g tab img i .bytes) (length out)) (doAt i)))) (kept out) (filled out)
       ≡ plainGet (some (contentOf img (runAt g tab img j))) out
   unfolding ended guard need plainGet
   fill-or-10 out j b true h = rw (b, h)
@@ -120,9 +121,9 @@ module _ (g : Geo) (bound : ℕ) (tab tc img : List ℕ) (ok : geoOk g ≡ true)
   view-get n out good = rw good (go (firstAt (named tab tab n) 0 ps) refl)
     where
       go : (o : Found) → firstAt (named tab tab n) 0 ps ≡ o
-          → ended (guard 5 true (need 6 (firstAt (named tab tab n) 0 ps) (λ j. guard 10 (leb (runAt g tab img j .bytes) (length out)) (doIt j 0)))) (kept out) (filled out)
+          → ended (guard 5 true (need 6 (firstAt (named tab tab n) 0 ps) (λ j. guard 10 (leb (runAt g tab img j .bytes) (length out)) (doAt j)))) (kept out) (filled out)
           ≡ plainGet (lookup n (listOf tab img ps)) out
-      go Nowhere e = rw (e, look-none tab img n 0 ps e) (none-6 out (λ j. guard 10 (leb (runAt g tab img j .bytes) (length out)) (doIt j 0)))
+      go Nowhere e = rw (e, look-none tab img n 0 ps e) (none-6 out (λ j. guard 10 (leb (runAt g tab img j .bytes) (length out)) (doAt j)))
       go (At j) e =
           rw (e, look-at n j e) (fill-or-10 out j (found-length n j e) (leb (runAt g tab img j .bytes) (length out)) refl)
 

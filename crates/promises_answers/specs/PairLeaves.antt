@@ -5,6 +5,7 @@ use mathlib.Core.List.{List}
 use mathlib.Core.Logic.{_≢_}
 use Prim.Native.Nat.{ℕ, _<_}
 use Rattle.words.specs.Bytes.{wordAt}
+use Rattle.sectors.specs.declared.Sector.{Sector}
 use Rattle.sectors.specs.Sectors.{sec}
 use Rattle.counts.specs.Geometry.{gP}
 use Rattle.counts.specs.Stamps.{stampOf}
@@ -40,9 +41,9 @@ pub record PairLeaves (s : Opened) (work after : List ℕ) (q : ℕ) : Type 0 wh
   pub kept : sec after (B (group s after q)) ≡ sec work (B (group s after q))
 
 abbrev pub PutPairs : Type 0
-PutPairs = (s : Opened) (work n d : List ℕ) (goal j a : ℕ) → putPlan s work n d goal ≡ doIt j a
+PutPairs = (s : Opened) (work n d : List ℕ) (goal j : ℕ) (a : Sector) → putPlan s work n d goal ≡ doIt j a
     → (q : ℕ) → q < gP (s .geo) → Changes s work j (Present (putRun a d)) q → PairLeaves s work (putWork s j a work n d) q
 
 abbrev pub RemovePairs : Type 0
-RemovePairs = (s : Opened) (work n : List ℕ) (j a : ℕ) → removePlan s work n ≡ doIt j a
+RemovePairs = (s : Opened) (work n : List ℕ) (j : ℕ) (a : Sector) → removePlan s work n ≡ doIt j a
     → (q : ℕ) → q < gP (s .geo) → Changes s work j Absent q → PairLeaves s work (removeWork s j work n) q

@@ -5,6 +5,7 @@ use mathlib.Core.List.{List, []}
 use mathlib.Core.Logic.{_⊎_}
 use Prim.Native.Nat.{ℕ, _+_, _%_, _≤_, _<_}
 use lib.ListN.{length, getD}
+use Rattle.sectors.specs.declared.Sector.{Sector}
 use Rattle.sectors.specs.Sectors.{sec}
 use Rattle.entries.specs.declared.Version.the-variants.{Absent}
 use Rattle.entries.specs.Entries.{shown, sectorsFor}
@@ -49,9 +50,9 @@ pub record GoesTo (s : Opened) (work : List ℕ) (k goal a : ℕ) : Type 0 where
   pub lowest : a < goal → (t : ℕ) → FreeFrom s work k t → a ≤ t
 
 abbrev pub PutPlaces : Type 0
-PutPlaces = (s : Opened) (work n d : List ℕ) (goal j a : ℕ) → putPlan s work n d goal ≡ doIt j a
-    → PlaceIs s work n j × (1 ≤ sectorsFor (length d) → GoesTo s work (sectorsFor (length d)) goal a)
+PutPlaces = (s : Opened) (work n d : List ℕ) (goal j : ℕ) (a : Sector) → putPlan s work n d goal ≡ doIt j a
+    → PlaceIs s work n j × (1 ≤ sectorsFor (length d) → GoesTo s work (sectorsFor (length d)) goal (a .0))
 
 abbrev pub RemovePlaces : Type 0
-RemovePlaces = (s : Opened) (work n : List ℕ) (j a : ℕ) → removePlan s work n ≡ doIt j a
+RemovePlaces = (s : Opened) (work n : List ℕ) (j : ℕ) (a : Sector) → removePlan s work n ≡ doIt j a
     → (j < length (entriesOf (s .geo) (sec work))) × Shows (presentTable s (sec work)) n (entryIn s work j)

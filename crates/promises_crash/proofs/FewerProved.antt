@@ -9,11 +9,12 @@ use borrow.Author.Tests.{le-leb, lt-leb}
 use Rattle.words.specs.Lists.{eqList}
 use Rattle.words_sums.specs.Sums.{total}
 use Rattle.words_sums.proofs.SumLaws.{total-same, total-zero, total-split, total-front, total-none}
+use Rattle.sectors.specs.declared.Sector.{Sector}
 use Rattle.sectors.specs.Sectors.{sec, Step, write, unless, diffSteps, writesIn, differs, unlike}
 use Rattle.counts.specs.declared.Geo.{Geo}
 use Rattle.counts.proofs.GeoLaws.{limits}
-use Rattle.card.specs.Plan.{Plan, refuse, doIt, ended, refused, done}
-use Rattle.card.proofs.PlanLaws.{Num, go!, guard-num, passing}
+use Rattle.card.specs.Plan.{Plan, refuse, doIt, goAhead, ended, refused, done}
+use Rattle.card.proofs.PlanLaws.{Num, ahead!, guard-num, passing}
 use Rattle.session.specs.declared.Opened.{Opened}
 use Rattle.session.specs.declared.Session.{Session}
 use Rattle.session.specs.declared.Session.the-variants.{Closed, Open}
@@ -28,7 +29,7 @@ use Rattle.promises_crash.specs.Fewer.{fullSync, fullUnmount, Alike, AsB
 -- ---- the same card
 
 -- by the plan, which is the same
-alike-plan : (p : Plan) (stop : ℕ → Ended) (a b : ℕ → ℕ → Ended) → ((j i : ℕ) → Alike (a j i) (b j i)) → Alike (ended p stop a) (ended p stop b)
+alike-plan : (p : Plan) (stop : ℕ → Ended) (a b : ℕ → Sector → Ended) → ((j : ℕ) (i : Sector) → Alike (a j i) (b j i)) → Alike (ended p stop a) (ended p stop b)
 unfolding ended
 alike-plan (refuse k) stop a b h = record { number = refl; session = refl; card = refl; work = refl }
 alike-plan (doIt j i) stop a b h = h j i
@@ -117,32 +118,32 @@ in-limits s work F = let L = limits (s .geo) (F .shape) in omega (arith, L .past
 -- ---- proved
 
 -- a count that holds where a plan goes through holds where the call gives 0
-counts-plan : {p : Plan} (stop : ℕ → Ended) (on : ℕ → ℕ → Ended) (n : ℕ) → Num p → ((k : ℕ) → stop k .answer .number ≡ k) → ((j a : ℕ) → p ≡ doIt j a → on j a .answer .count ≡ n)
+counts-plan : {p : Plan} (stop : ℕ → Ended) (on : ℕ → Sector → Ended) (n : ℕ) → Num p → ((k : ℕ) → stop k .answer .number ≡ k) → ((j : ℕ) (a : Sector) → p ≡ doIt j a → on j a .answer .count ≡ n)
     → ended p stop on .answer .number ≡ 0 → ended p stop on .answer .count ≡ n
 counts-plan stop on n q e f = passing (λ r. r .answer .number ≡ 0 → r .answer .count ≡ n) stop on q (λ k h. absurd (omega (arith, e (suc k)))) (λ j a x h. f j a x)
 
 of-sync : (s : Opened) (card work : List ℕ) → sync (Open s) card work .answer .number ≡ 0 → sync (Open s) card work .answer .count ≡ differing (s .geo) card work + 1
 unfolding sync syncDone refused done
 of-sync s card work =
-    counts-plan _ _ _ (both-num s card work (guard-num 8 _ (go! 0 0))) (λ k. refl)
+    counts-plan _ _ _ (both-num s card work (guard-num 8 _ ahead!)) (λ k. refl)
     (λ j a e. sync-count s card work (in-limits s work (sync-live s card work e .0)))
 
 -- a sync that gives 0 is not of a worn session
 pub sync-not-worn : (s : Opened) (card work : List ℕ) → sync (Open s) card work .answer .number ≡ 0 → s .worn ≡ false
 unfolding sync refused
 sync-not-worn s card work =
-    passing (λ (r : Ended). r .answer .number ≡ 0 → s .worn ≡ false) _ _ (both-num s card work (guard-num 8 _ (go! 0 0))) (λ k h. absurd (omega (arith, h)))
+    passing (λ (r : Ended). r .answer .number ≡ 0 → s .worn ≡ false) _ _ (both-num s card work (guard-num 8 _ ahead!)) (λ k h. absurd (omega (arith, h)))
     (λ j a e h. sync-live s card work e .1)
 
 of-unmount : (s : Opened) (card work : List ℕ) → s .worn ≡ false → unmount (Open s) card work .answer .number ≡ 0 → unmount (Open s) card work .answer .count ≡ differing (s .geo) card work + 1
 unfolding unmount unmountDone unmountCount countedBy refused done
 of-unmount s card work live =
-    counts-plan _ _ _ (both-num s card work (go! 0 0)) (λ k. refl)
+    counts-plan _ _ _ (both-num s card work ahead!) (λ k. refl)
     (λ j a e. ap (λ (b : Bool). countedBy b s card work) live ∙ sync-count s card work (in-limits s work (fit-inv s work (both-inv s card work _ e .0))))
 
 of-worn : (s : Opened) (card work : List ℕ) → s .worn ≡ true → unmount (Open s) card work .answer .count ≡ 0
 unfolding unmount refused
-of-worn s card work w = go (bothPlan s card work (doIt 0 0))
+of-worn s card work w = go (bothPlan s card work goAhead)
   where
     zero-count : unmountDone s card work .answer .count ≡ 0
     zero-count = unfold unmountDone done unmountCount in (ap (λ (b : Bool). countedBy b s card work) w ∙ (unfold countedBy in refl))

@@ -7,10 +7,11 @@ use native.Mathlib.Omega.{arith}
 use native.Mathlib.Decide.{decLe}
 use lib.ListN.{length, take}
 use lib.Seq.{take-all, take-length, take-nil}
+use Rattle.sectors.specs.declared.Sector.{Sector}
 use Rattle.sectors.specs.Sectors.{Step, applySteps, lean}
 use Rattle.sectors.proofs.Fewer.{lean-first, lean-reach}
 use Rattle.card.specs.Plan.{Plan, ended, refused, done}
-use Rattle.card.proofs.PlanLaws.{Num, no!, go!, guard-num}
+use Rattle.card.proofs.PlanLaws.{Num, no!, go!, ahead!, guard-num}
 use Rattle.session.specs.declared.Opened.{Opened}
 use Rattle.session.specs.declared.Session.{Session}
 use Rattle.session.specs.declared.Session.the-variants.{Closed, Open}
@@ -28,7 +29,7 @@ use Rattle.promises_crash.proofs.HostRunsProved.{as-calls, kept-so}
 
 -- ---- by the plan: its first steps on the card are those of the call, none where it is refused
 
-first-image : {p : Plan} → Num p → (stop : ℕ → Ended) (on : ℕ → ℕ → Ended) → ((k : ℕ) → stop k .answer .number ≡ k) → ((j a : ℕ) → on j a .answer .number ≡ 0)
+first-image : {p : Plan} → Num p → (stop : ℕ → Ended) (on : ℕ → Sector → Ended) → ((k : ℕ) → stop k .answer .number ≡ k) → ((j : ℕ) (a : Sector) → on j a .answer .number ≡ 0)
     → (card : List ℕ) (n w : ℕ) (steps : List Step) → firstOf p card n steps w .image ≡ applySteps (take n (byNumber (ended p stop on .answer .number) steps [])) card
 unfolding firstOf ended
 first-image (no! k) stop on e z card n w steps = rw (e (suc k)) (unfold byNumber in rw (take-nil {A = Step} n) (unfold applySteps in refl))
@@ -80,7 +81,7 @@ sync-image : (o : Session) (card work : List ℕ)
 unfolding syncFirst sync syncDone syncsBy syncAt refused done
 sync-image Closed card work = (λ k. (unfold byNumber applySteps in refl), λ n. (0, unfold byNumber in sym (take-nil {A = Step} n)))
 sync-image (Open s) card work = (
-  λ k. first-image (both-num s card work (guard-num 8 _ (go! 0 0))) _ _ (λ n. refl) (λ j a. refl) card (syncedAt s card work k) _ (syncSteps s card work []),
+  λ k. first-image (both-num s card work (guard-num 8 _ ahead!)) _ _ (λ n. refl) (λ j a. refl) card (syncedAt s card work k) _ (syncSteps s card work []),
   λ n. places-by (syncSteps s card work []) (syncedAt s card work) (sync-places s card work) _ n,
 )
 
@@ -89,7 +90,7 @@ unmount-image : (o : Session) (card work : List ℕ)
 unfolding unmountFirst unmount unmountDone unmountsBy unmountAt refused done
 unmount-image Closed card work = (λ k. (unfold byNumber applySteps in refl), λ n. (0, unfold byNumber in sym (take-nil {A = Step} n)))
 unmount-image (Open s) card work = (
-  λ k. first-image (both-num s card work (go! 0 0)) _ _ (λ n. refl) (λ j a. refl) card (downAt s card work k) _ (unmountSteps s card work),
+  λ k. first-image (both-num s card work ahead!) _ _ (λ n. refl) (λ j a. refl) card (downAt s card work k) _ (unmountSteps s card work),
   λ n. places-by (unmountSteps s card work) (downAt s card work) (down-places s card work) _ n,
 )
 

@@ -10,6 +10,7 @@ use lib.Dec.{leb, ltb, eqb}
 use lib.ListN.{length}
 use Rattle.words_sums.specs.Sums.{bit, total, inRun}
 use Rattle.words_sums.proofs.SumLaws.{total-add, total-run, total-zero, total-le, place}
+use Rattle.sectors.specs.declared.Sector.{Sector}
 use Rattle.entries.specs.Entries.{sectorsFor}
 use Rattle.directory.specs.Directory.{spotOf}
 use Rattle.card.specs.Plan.{Plan, ended, refused, done, Changed}
@@ -66,12 +67,12 @@ few-more s work j a k c M F pages = record { few = few; none = λ z. absurd (ome
         omega (arith, run-few (spotOf (s .geo) j .sector) 1 S, run-few a k S)
 
 -- a change by its plan
-few-plan : (s : Opened) (work : List ℕ) (k c : ℕ) (M : Marks) {p : Plan} → Num p → (on : ℕ → ℕ → Changed) → ((j a : ℕ) → on j a .answer .number ≡ 0) → Few M c
+few-plan : (s : Opened) (work : List ℕ) (k c : ℕ) (M : Marks) {p : Plan} → Num p → (on : ℕ → Sector → Changed) → ((j : ℕ) (a : Sector) → on j a .answer .number ≡ 0) → Few M c
     → Few (marked s work k p M) (byNumber (ended p (λ n. record { answer = refused n; image = work }) on .answer .number) (k + 1 + c) c)
 unfolding marked refused ended byNumber
 few-plan s work k c M q on z F =
     by-num (λ (p : Plan). Few (marked s work k p M) (byNumber (ended p (λ n. record { answer = refused n; image = work }) on .answer .number) (k + 1 + c) c))
-    q (λ n. F) (λ j a e. rw (z j a) (few-more s work j a k c M F _))
+    q (λ n. F) (λ j a e. rw (z j a) (few-more s work j (a .0) k c M F _))
 
 few-put : (o : Session) (work n d : List ℕ) (goal c : ℕ) (M : Marks) → Few M c → Few (putMarks o work n d goal M) (byNumber (putAt o work n d goal .answer .number) (sectorsFor (length d) + 1 + c) c)
 unfolding putMarks putAt refused done byNumber

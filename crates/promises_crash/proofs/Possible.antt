@@ -13,7 +13,7 @@ use Rattle.counts.specs.declared.Geo.{Geo}
 use Rattle.counts.specs.Geometry.{gN, geoOf, countOf}
 use Rattle.counts.proofs.GeoLaws.{limits}
 use Rattle.card.specs.Plan.{refused, done}
-use Rattle.card.proofs.PlanLaws.{go!, guard-num}
+use Rattle.card.proofs.PlanLaws.{ahead!, guard-num}
 use Rattle.session.specs.declared.Opened.{Opened}
 use Rattle.session.specs.declared.Session.{Session}
 use Rattle.session.specs.declared.Session.the-variants.{Closed, Open}
@@ -99,7 +99,7 @@ sync-left : (s : Session) (card work : List ℕ) (p : Pending) (m : List Item) �
 unfolding stepsOf sync refused syncsBy byNumber
 sync-left Closed card work p m h = none card p (inv-left (mk card work Closed p m) h)
 sync-left (Open s) card work p m h =
-    steps-plan (λ (r : Ended). r .answer .number) (Lefts card p) _ _ (syncSteps s card work []) (λ k. refl) (both-num s card work (guard-num 8 _ (go! 0 0)))
+    steps-plan (λ (r : Ended). r .answer .number) (Lefts card p) _ _ (syncSteps s card work []) (λ k. refl) (both-num s card work (guard-num 8 _ ahead!))
     (none card p (inv-left (mk card work (Open s) p m) h)) (λ j a e. let (F, live) = sync-live s card work e in finish F live)
   where
     finish : Fit s work → s .worn ≡ false → Lefts card p (byNumber (syncDone s card work .answer .number) (syncSteps s card work []) [])
@@ -127,7 +127,7 @@ unmount-left : (s : Session) (card work : List ℕ) (p : Pending) (m : List Item
 unfolding stepsOf unmount refused unmountsBy byNumber
 unmount-left Closed card work p m h = none card p (inv-left (mk card work Closed p m) h)
 unmount-left (Open s) card work p m h =
-    steps-plan (λ (r : Ended). r .answer .number) (Lefts card p) _ _ (unmountSteps s card work) (λ k. refl) (both-num s card work (go! 0 0))
+    steps-plan (λ (r : Ended). r .answer .number) (Lefts card p) _ _ (unmountSteps s card work) (λ k. refl) (both-num s card work ahead!)
     (none card p (inv-left (mk card work (Open s) p m) h)) (λ j a e. finish (fit-inv s work (both-inv s card work _ e .0)))
   where
     finish : Fit s work → Lefts card p (byNumber (unmountDone s card work .answer .number) (unmountSteps s card work) [])

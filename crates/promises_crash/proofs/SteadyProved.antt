@@ -5,10 +5,11 @@ use mathlib.Core.List.{List, []}
 use mathlib.Core.Logic.{_≢_}
 use Prim.Native.Nat.{ℕ, zero, suc, _<_}
 use native.Mathlib.Omega.{arith}
+use Rattle.sectors.specs.declared.Sector.{Sector}
 use Rattle.sectors.specs.Sectors.{sec, applySteps}
 use Rattle.counts.specs.Geometry.{gN, geoOk, geoOf, countOf}
 use Rattle.card.specs.Plan.{Plan, doIt, ended, refused, Changed}
-use Rattle.card.proofs.PlanLaws.{Num, go!, guard-num, passing}
+use Rattle.card.proofs.PlanLaws.{Num, ahead!, guard-num, passing}
 use Rattle.card.specs.Sound.{shapeOk, sound}
 use Rattle.card.specs.Make.{freshCard, make}
 use Rattle.card.proofs.FreshLaws.{fresh-empty}
@@ -70,7 +71,7 @@ unmount-shows w r h = card-possible (after unmountC w) (call r unmountC) .1 .sho
     last-is = unfold after stepped in ap (λ (v : World). v .last) (by-zero (unmount (w .session) (w .card) (w .work) .answer .number) _ w h)
 
 -- a plan that comes to 0 goes through
-pub through : {A : Type 0} (num : A → ℕ) (P : A → Type 0) (f : ℕ → A) (h : ℕ → ℕ → A) → ((k : ℕ) → num (f k) ≡ k) → {p : Plan} → Num p → ((j a : ℕ) → p ≡ doIt j a → P (h j a))
+pub through : {A : Type 0} (num : A → ℕ) (P : A → Type 0) (f : ℕ → A) (h : ℕ → Sector → A) → ((k : ℕ) → num (f k) ≡ k) → {p : Plan} → Num p → ((j : ℕ) (a : Sector) → p ≡ doIt j a → P (h j a))
     → num (ended p f h) ≡ 0 → P (ended p f h)
 through num P f h e p q = passing (λ r. num r ≡ 0 → P r) f h p (λ k z. absurd (omega (arith, e (suc k)))) (λ j a d z. q j a d)
 
@@ -90,7 +91,7 @@ unfolding sync refused
 sync-same Closed card work h = refl
 sync-same (Open s) card work h =
     through (λ (r : Ended). r .answer .number) (λ r. shownIn (r .session) (r .work) ≡ shownIn (Open s) work) _ _ (λ k. refl)
-    (both-num s card work (guard-num 8 _ (go! 0 0))) (λ j a e. let (F, live) = sync-live s card work e in (unfold syncDone in sync-done s work F live)) h
+    (both-num s card work (guard-num 8 _ ahead!)) (λ j a e. let (F, live) = sync-live s card work e in (unfold syncDone in sync-done s work F live)) h
 
 mount-done : (card : List ℕ) → shapeOk card ≡ true → sound card ≡ true → countOf (sec card) < gN (geoOf (sec card)) → shownIn (Open (openedFrom card)) (applySteps (mountSteps card) card) ≡ shownBy card
 unfolding sound shownBy filesShown

@@ -11,7 +11,7 @@ use Rattle.counts.specs.Geometry.{gN, geoOf, countOf, tableOf}
 use Rattle.counts.specs.Stamps.{maxTx}
 use Rattle.directory.specs.Directory.{entriesOf}
 use Rattle.card.specs.Plan.{refused, done}
-use Rattle.card.proofs.PlanLaws.{go!, guard-num}
+use Rattle.card.proofs.PlanLaws.{ahead!, guard-num}
 use Rattle.card.specs.Files.{filesOf}
 use Rattle.card.specs.Reading.{filesIn, filesShown}
 use Rattle.session.specs.declared.Opened.{Opened}
@@ -105,7 +105,7 @@ step-sync Closed card work p m h = h
 step-sync (Open s) card work p m h =
     by-plan (λ (r : Ended). r .answer .number) Inv (mk card work (Open s) p m) _ _
     (λ r. mk (r .card) (r .work) (r .session) (play (byNumber (r .answer .number) (syncSteps s card work []) []) p) (shownIn (Open s) work)) (λ k. refl)
-    (both-num s card work (guard-num 8 _ (go! 0 0))) h
+    (both-num s card work (guard-num 8 _ ahead!)) h
     (λ j a e. let (F, live) = sync-live s card work e in finish F live)
   where
     finish : Fit s work → s .worn ≡ false
@@ -144,7 +144,7 @@ step-unmount Closed card work p m h = h
 step-unmount (Open s) card work p m h =
     by-plan (λ (r : Ended). r .answer .number) Inv (mk card work (Open s) p m) _ _
     (λ r. mk (r .card) (r .work) (r .session) (play (byNumber (r .answer .number) (unmountSteps s card work) []) p) (shownIn (Open s) work)) (λ k. refl)
-    (both-num s card work (go! 0 0)) h
+    (both-num s card work ahead!) h
     (λ j a e. finish (fit-inv s work (both-inv s card work _ e .0)))
   where
     finish : Fit s work

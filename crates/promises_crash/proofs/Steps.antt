@@ -7,13 +7,14 @@ use Prim.Native.Nat.{ℕ, suc, _<_}
 use native.Mathlib.Decide.{ℕ-discrete}
 use borrow.Author.Tests.{ltb-true}
 use lib.ListN.{length}
+use Rattle.sectors.specs.declared.Sector.{Sector}
 use Rattle.sectors.specs.Sectors.{sec, setSec}
 use Rattle.sectors.proofs.SectorLaws.{setSec-length, setSec-own}
 use Rattle.sectors.proofs.FlatLaws.{sec-in, set-here, set-there}
 use Rattle.counts.specs.declared.Geo.{Geo}
 use Rattle.counts.specs.Geometry.{geoOk, geoOf}
 use Rattle.card.specs.Plan.{Plan, doIt, ended, refused, done, Changed}
-use Rattle.card.proofs.PlanLaws.{guard-inv, Num, go!, guard-num, passing}
+use Rattle.card.proofs.PlanLaws.{guard-inv, Num, ahead!, guard-num, passing}
 use Rattle.card.specs.Sound.{shapeOk, sound}
 use Rattle.card.proofs.SoundLaws.{shape-inv}
 use Rattle.card.specs.Make.{freshCard, make}
@@ -38,8 +39,8 @@ use Rattle.promises_crash.proofs.Inv.{Worn, OpenInv, InvOf, Inv, mk}
 
 -- ---- a plan either refuses, and the world stays, or goes through
 
-pub by-plan : {A : Type 0} (number : A → ℕ) (P : World → Type 0) (w : World) (stop : ℕ → A) (on : ℕ → ℕ → A) (next : A → World) {pl : Plan}
-    → ((k : ℕ) → number (stop k) ≡ k) → Num pl → P w → ((j a : ℕ) → pl ≡ doIt j a → P (byNumber (number (on j a)) (next (on j a)) w))
+pub by-plan : {A : Type 0} (number : A → ℕ) (P : World → Type 0) (w : World) (stop : ℕ → A) (on : ℕ → Sector → A) (next : A → World) {pl : Plan}
+    → ((k : ℕ) → number (stop k) ≡ k) → Num pl → P w → ((j : ℕ) (a : Sector) → pl ≡ doIt j a → P (byNumber (number (on j a)) (next (on j a)) w))
     → P (byNumber (number (ended pl stop on)) (next (ended pl stop on)) w)
 unfolding byNumber
 by-plan number P w stop on next e q h f = passing (λ r. P (byNumber (number r) (next r) w)) stop on q (λ k. rw (e (suc k)) h) f
@@ -140,7 +141,7 @@ pub step-land : (i : ℕ) (s : Session) (card work : List ℕ) (p : Pending) (m 
 unfolding after land refused done byNumber
 step-land i Closed card work p m h = h
 step-land i (Open s) card work p m h =
-    by-plan (λ (r : Changed). r .answer .number) Inv (mk card work (Open s) p m) _ _ (λ r. mk (r .image) work (Open s) p m) (λ k. refl) (both-num s card work (guard-num 10 _ (go! 0 0))) h
+    by-plan (λ (r : Changed). r .answer .number) Inv (mk card work (Open s) p m) _ _ (λ r. mk (r .image) work (Open s) p m) (λ k. refl) (both-num s card work (guard-num 10 _ ahead!)) h
     (λ j a e.
     let (f, q) = both-inv s card work _ e in
     open-land (s .worn) s card work p m i (ltb-true i (s .geo .s) (guard-inv 11 _ _ q .0)) f h)

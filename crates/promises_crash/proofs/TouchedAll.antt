@@ -3,11 +3,12 @@ use mathlib.Core.Path.{_≡_, refl}
 use mathlib.Core.List.{List, []}
 use Prim.Native.Nat.{ℕ, zero, suc}
 use lib.ListN.{length}
+use Rattle.sectors.specs.declared.Sector.{Sector}
 use Rattle.sectors.specs.Sectors.{sec}
 use Rattle.entries.specs.declared.Version.the-variants.{Absent, Present}
 use Rattle.entries.specs.Entries.{sectorsFor}
 use Rattle.card.specs.Plan.{Plan, refuse, doIt, ended, refused, done}
-use Rattle.card.proofs.PlanLaws.{Num, no!, go!, guard-num, guard-inv, need-inv, passing}
+use Rattle.card.proofs.PlanLaws.{Num, no!, go!, ahead!, guard-num, guard-inv, need-inv, passing}
 use Rattle.session.specs.declared.Opened.{Opened}
 use Rattle.session.specs.declared.Session.{Session}
 use Rattle.session.specs.declared.Session.the-variants.{Closed, Open}
@@ -30,7 +31,7 @@ abbrev TouchedW : World → Marks → Type 0
 TouchedW w M = Touched (w .session) (w .pending) M
 
 -- by a plan that refuses, or goes through
-pub by-num : (P : Plan → Type 0) {p : Plan} → Num p → ((k : ℕ) → P (refuse (suc k))) → ((j a : ℕ) → p ≡ doIt j a → P (doIt j a)) → P p
+pub by-num : (P : Plan → Type 0) {p : Plan} → Num p → ((k : ℕ) → P (refuse (suc k))) → ((j : ℕ) (a : Sector) → p ≡ doIt j a → P (doIt j a)) → P p
 by-num P (no! k) x y = x k
 by-num P (go! j a) x y = y j a refl
 
@@ -46,10 +47,10 @@ touched-put n d goal (Open s) card work p m M h T =
     (put-num s work n d goal) (λ k. T)
     (λ j a e.
     let V₀ = to-live s (mk card work (Open s) p m) (put-inv s work n d goal j a e .live) h in
-    unfold putWork in touched-more s j a (sectorsFor (length d)) (Present (putRun a d)) card work n d p m (put-ready s work (sec work) refl n d goal j a e) V₀ M T)
+    unfold putWork in touched-more s j (a .0) (sectorsFor (length d)) (Present (putRun a d)) card work n d p m (put-ready s work (sec work) refl n d goal j a e) V₀ M T)
 
 -- remove's plan names no sector
-remove-zero : (s : Opened) (work n : List ℕ) (j a : ℕ) → removePlan s work n ≡ doIt j a → a ≡ 0
+remove-zero : (s : Opened) (work n : List ℕ) (j : ℕ) (a : Sector) → removePlan s work n ≡ doIt j a → a .0 ≡ 0
 unfolding removePlan
 remove-zero s work n j a h = let (i, x, e) = need-inv 6 _ _ (guard-inv 5 _ _ (guard-inv 9 _ _ (guard-inv 2 _ _ h .1) .1) .1) in cc
 
@@ -86,7 +87,7 @@ touched-sync Closed card work p m M h T = T
 touched-sync (Open s) card work p m M h T =
     passing (λ (r : Ended). TouchedW (byNumber (r .answer .number) (mk (r .card) (r .work) (r .session) (play (byNumber (r .answer .number) (syncSteps s card work []) []) p) (shownIn (Open s) work)) (mk card work (Open s) p m))
     (byNumber (r .answer .number) noMarks M))
-    _ _ (both-num s card work (guard-num 8 _ (go! 0 0))) (λ k. T)
+    _ _ (both-num s card work (guard-num 8 _ ahead!)) (λ k. T)
     (λ j a e.
     let (F, live) = sync-live s card work e in
     let V₀ = to-live s (mk card work (Open s) p m) live h in
@@ -99,7 +100,7 @@ touched-unmount Closed card work p m M T = T
 touched-unmount (Open s) card work p m M T =
     passing (λ (r : Ended). TouchedW (byNumber (r .answer .number) (mk (r .card) (r .work) (r .session) (play (byNumber (r .answer .number) (unmountsBy (Open s) card work) []) p) (shownIn (Open s) work)) (mk card work (Open s) p m))
     (byNumber (r .answer .number) noMarks M))
-    _ _ (both-num s card work (go! 0 0)) (λ k. T) (λ j a e. tt)
+    _ _ (both-num s card work ahead!) (λ k. T) (λ j a e. tt)
 
 -- ---- the others leave session and pending values, or end the session
 

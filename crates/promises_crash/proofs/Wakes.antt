@@ -14,7 +14,7 @@ use Rattle.counts.specs.declared.Stamp.{Stamp}
 use Rattle.counts.specs.Geometry.{gN, geoOf, countOf, tableOf}
 use Rattle.counts.proofs.GeoLaws.{table-same}
 use Rattle.card.specs.Plan.{refused}
-use Rattle.card.proofs.PlanLaws.{go!, guard-num}
+use Rattle.card.proofs.PlanLaws.{ahead!, guard-num}
 use Rattle.card.proofs.MeansParts.{limits-mean}
 use Rattle.card.specs.Means.{EachStamp, Alive, DeadBelow, Sound}
 use Rattle.card.proofs.SoundLaws.{shape-inv}
@@ -108,7 +108,7 @@ module _ (card work : List ℕ) (z : mount card work .answer .number ≡ 0) wher
 sync-fits : (s : Opened) (card work : List ℕ) → sync (Open s) card work .answer .number ≡ 0 → Fits s work
 unfolding sync refused
 sync-fits s card work z =
-    through (λ (r : Ended). r .answer .number) (λ r. Fits s work) _ _ (λ k. refl) (both-num s card work (guard-num 8 _ (go! 0 0)))
+    through (λ (r : Ended). r .answer .number) (λ r. Fits s work) _ _ (λ k. refl) (both-num s card work (guard-num 8 _ ahead!))
     (λ j a e. fits-mean s work .0 (both-inv s card work _ e .0)) z
 
 module _ (s : Opened) (card work : List ℕ) (z : sync (Open s) card work .answer .number ≡ 0) where

@@ -5,11 +5,12 @@ use mathlib.Core.List.{List, []}
 use mathlib.Core.Logic.{_⊎_, inl}
 use Prim.Native.Nat.{ℕ, suc, _<_}
 use lib.ListN.{length, take}
+use Rattle.sectors.specs.declared.Sector.{Sector}
 use Rattle.sectors.specs.Sectors.{sec, Step}
 use Rattle.counts.specs.declared.Geo.{Geo}
 use Rattle.counts.specs.Geometry.{gN, geoOf, countOf}
 use Rattle.card.specs.Plan.{Plan, doIt, ended, refused, done}
-use Rattle.card.proofs.PlanLaws.{Num, go!, guard-num, passing}
+use Rattle.card.proofs.PlanLaws.{Num, ahead!, guard-num, passing}
 use Rattle.session.specs.declared.Opened.{Opened}
 use Rattle.session.specs.declared.Session.{Session}
 use Rattle.session.specs.declared.Session.the-variants.{Closed, Open}
@@ -30,8 +31,8 @@ use Rattle.promises_crash.proofs.Steps.{to-live}
 use Rattle.promises_crash.proofs.StepAll.{own-geo, not-top}
 
 -- a call that is refused takes no step
-pub steps-plan : {A : Type 0} (number : A → ℕ) (Q : List Step → Type 0) (stop : ℕ → A) (on : ℕ → ℕ → A) (steps : List Step) {pl : Plan}
-    → ((k : ℕ) → number (stop k) ≡ k) → Num pl → Q [] → ((j a : ℕ) → pl ≡ doIt j a → Q (byNumber (number (on j a)) steps []))
+pub steps-plan : {A : Type 0} (number : A → ℕ) (Q : List Step → Type 0) (stop : ℕ → A) (on : ℕ → Sector → A) (steps : List Step) {pl : Plan}
+    → ((k : ℕ) → number (stop k) ≡ k) → Num pl → Q [] → ((j : ℕ) (a : Sector) → pl ≡ doIt j a → Q (byNumber (number (on j a)) steps []))
     → Q (byNumber (number (ended pl stop on)) steps [])
 unfolding byNumber
 steps-plan number Q stop on steps e q h f = passing (λ r. Q (byNumber (number r) steps [])) stop on q (λ k. rw (e (suc k)) h) f
@@ -78,7 +79,7 @@ unfolding stepsOf sync refused syncsBy byNumber isSync
 within-sync Closed card work p m h = every-nil (Mid syncC Closed card work m) p (mid-old syncC Closed card work p m h)
 within-sync (Open s) card work p m h =
     steps-plan (λ (r : Ended). r .answer .number) (λ (x : List Step). Every (Mid syncC (Open s) card work m) x p) _ _ (syncSteps s card work []) (λ k. refl)
-    (both-num s card work (guard-num 8 _ (go! 0 0))) (every-nil (Mid syncC (Open s) card work m) p (mid-old syncC (Open s) card work p m h))
+    (both-num s card work (guard-num 8 _ ahead!)) (every-nil (Mid syncC (Open s) card work m) p (mid-old syncC (Open s) card work p m h))
     (λ j a e. let (F, live) = sync-live s card work e in finish F live)
   where
     finish : Fit s work → s .worn ≡ false → Every (Mid syncC (Open s) card work m) (byNumber (syncDone s card work .answer .number) (syncSteps s card work []) []) p
@@ -106,7 +107,7 @@ unfolding stepsOf unmount refused unmountsBy byNumber
 within-unmount Closed card work p m h = every-nil (Mid unmountC Closed card work m) p (mid-old unmountC Closed card work p m h)
 within-unmount (Open s) card work p m h =
     steps-plan (λ (r : Ended). r .answer .number) (λ (x : List Step). Every (Mid unmountC (Open s) card work m) x p) _ _ (unmountSteps s card work) (λ k. refl)
-    (both-num s card work (go! 0 0)) (every-nil (Mid unmountC (Open s) card work m) p (mid-old unmountC (Open s) card work p m h))
+    (both-num s card work ahead!) (every-nil (Mid unmountC (Open s) card work m) p (mid-old unmountC (Open s) card work p m h))
     (λ j a e. finish (fit-inv s work (both-inv s card work _ e .0)))
   where
     finish : Fit s work → Every (Mid unmountC (Open s) card work m) (byNumber (unmountDone s card work .answer .number) (unmountSteps s card work) []) p

@@ -11,7 +11,7 @@ use Rattle.counts.specs.declared.Geo.{Geo}
 use Rattle.counts.specs.Geometry.{gP}
 use Rattle.entries.specs.Entries.{sectorsFor}
 use Rattle.directory.specs.Directory.{spotOf}
-use Rattle.card.specs.Plan.{Plan, guard, doIt, ended, refused, done}
+use Rattle.card.specs.Plan.{Plan, guard, goAhead, ended, refused, done}
 use Rattle.card.specs.Files.{runAt}
 use Rattle.session.specs.declared.Opened.{Opened}
 use Rattle.session.specs.declared.Session.{Session}
@@ -29,7 +29,7 @@ use Rattle.promises_crash.specs.History.{World, Call, makeC, mountC, syn
 unfoldable pub fullSync : Session → List ℕ → List ℕ → Ended
 fullSync Closed card work = record { answer = refused 4; session = Closed; card = card; work = work }
 fullSync (Open s) card work =
-    ended (bothPlan s card work (guard 9 (not (s .worn)) (doIt 0 0)))
+    ended (bothPlan s card work (guard 9 (not (s .worn)) goAhead))
     (λ k. record { answer = refused k; session = Open s; card = card; work = work })
     (λ j a. record { answer = done 0; session = Open (grown (atTop s) s); card = applySteps (allSteps s work []) card; work = syncWork s work })
 
@@ -37,7 +37,7 @@ fullSync (Open s) card work =
 unfoldable pub fullUnmount : Session → List ℕ → List ℕ → Ended
 fullUnmount Closed card work = record { answer = refused 4; session = Closed; card = card; work = work }
 fullUnmount (Open s) card work =
-    ended (bothPlan s card work (doIt 0 0)) (λ k. record { answer = refused k; session = Open s; card = card; work = work })
+    ended (bothPlan s card work goAhead) (λ k. record { answer = refused k; session = Open s; card = card; work = work })
     (λ j a. record { answer = done 0; session = Closed; card = applySteps (allDown s work) card; work = unmountWork s work })
 
 -- two ends of a call alike but for the count
@@ -126,7 +126,7 @@ bitsIn s work j a k q = let e = runAt (s .geo) (presentTable s (sec work)) work 
 
 -- the marks m, and those of a change of k sectors where its plan goes through
 unfoldable pub marked : Opened → List ℕ → ℕ → Plan → Marks → Marks
-marked s work k p m = ended p (λ n. m) (λ j a. record { sectors = λ i. hitBy s j a k i || m .sectors i; pages = λ q. bitsIn s work j a k q || m .pages q })
+marked s work k p m = ended p (λ n. m) (λ j a. record { sectors = λ i. hitBy s j (a .0) k i || m .sectors i; pages = λ q. bitsIn s work j (a .0) k q || m .pages q })
 
 unfoldable pub putMarks : Session → List ℕ → List ℕ → List ℕ → ℕ → Marks → Marks
 putMarks Closed work n d goal m = m

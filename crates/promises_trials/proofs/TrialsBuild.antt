@@ -16,7 +16,7 @@ use Rattle.entries.specs.declared.Entry.{Entry}
 use Rattle.entries.specs.declared.Version.the-variants.{Absent, Present}
 use Rattle.entries.specs.Entries.{entryBytes}
 use Rattle.directory.specs.Directory.{entriesOf, setEntry, apart}
-use Rattle.card.specs.Plan.{Plan, doIt, guard, ended, refused, done}
+use Rattle.card.specs.Plan.{Plan, goAhead, guard, ended, refused, done}
 use Rattle.card.specs.Sound.{viewOk, shapeOk, sound}
 use Rattle.card.specs.Make.{freshCard}
 use Rattle.session.specs.declared.Session.the-variants.{Closed, Open}
@@ -32,7 +32,7 @@ use Rattle.promises_trials.proofs.TrialsCard.{ten, a, stretch, computes
 unfoldable pub mountPlanBy : (List ℕ → Bool) → List ℕ → List ℕ → Plan
 mountPlanBy good card work =
     guard 1 (shapeOk card && eqb (length work) (length card))
-    (guard 2 (good card) (guard 3 (ltb (countOf (sec card)) (gN (geoOf (sec card)))) (doIt 0 0)))
+    (guard 2 (good card) (guard 3 (ltb (countOf (sec card)) (gN (geoOf (sec card)))) goAhead))
 
 unfoldable pub mountBy : (List ℕ → Bool) → List ℕ → List ℕ → Ended
 mountBy good card work =
@@ -77,7 +77,7 @@ pub dead-refused : (shapeOk deadCard ≡ true) × (sound deadCard ≡ false)
 unfolding computes deadEntry deadCard
 dead-refused = (refl, refl)
 
-pub late-mounts : (mountPlanBy soundLate deadCard deadCard ≡ doIt 0 0) × (openedFrom deadCard ≡ stretch 1)
+pub late-mounts : (mountPlanBy soundLate deadCard deadCard ≡ goAhead) × (openedFrom deadCard ≡ stretch 1)
 unfolding computes deadEntry deadCard mountPlanBy soundLate lateIn
 late-mounts = (refl, refl)
 

@@ -16,7 +16,7 @@ use Rattle.directory.specs.Directory.{sectorEntries, entriesFrom, entriesOf, sp
 use Rattle.apages.specs.Bits.{bitAt, putDigit, putBit, setRun, bitsN, bitsOf, clearIn, clearBits}
 use Rattle.apages.specs.Runs.{merge, allClear, findRun, runAfter, lowestRun, goalRun, runFor, outside, wanted, bitsOk, bytesToS, pageOk, dataFrom, dataTo, freshPage}
 use Rattle.apages.specs.Index.{indexOf, groupBytes, groupOf, everyGroup, indexIn, pairOk, groupOk, indexOk, shownPage, pageAt, mapFrom, pageIn, changedIndex, pageBefore, changedRun, changeRun, changeBits}
-use Rattle.card.specs.Plan.{doIt, guard, need, ended, refused, done}
+use Rattle.card.specs.Plan.{goAhead, guard, need, ended, refused, done}
 use Rattle.card.specs.Files.{consFile, filesOf, inPieces, holdsAt, cover, piecesIn, contentOf, runOf, runAt}
 use Rattle.card.specs.Sound.{viewOk, soundIn, shapeOk, sound}
 use Rattle.card.specs.Make.{blockBytes, freshGroup, freshGroups, freshIndex, freshPages, freshCard}
@@ -63,7 +63,7 @@ start = applySteps (mountSteps (freshCard ten)) (freshCard ten)
 
 -- the working image after put of `a`
 unfoldable pub workA : List ℕ
-workA = putWork (stretch 1) 0 6 start a seven
+workA = putWork (stretch 1) 0 (record { 0 = 6 }) start a seven
 
 -- the card after sync, and the working image
 unfoldable pub cardS : List ℕ
@@ -74,7 +74,7 @@ workS = syncWork (stretch 1) workA
 
 -- the working image after put of `b`
 unfoldable pub workB : List ℕ
-workB = putWork (stretch 2) 1 7 workS b seven
+workB = putWork (stretch 2) 1 (record { 0 = 7 }) workS b seven
 
 -- one name that opens what these compute with
 unfoldable pub computes : ℕ
@@ -82,7 +82,7 @@ unfolding start workA cardS workS workB shownIn items lineName lookup inRun ever
 computes = 0
 
 -- mount goes through, and opens the session at t = 1
-pub mount-goes : (mountPlan (freshCard ten) (freshCard ten) ≡ doIt 0 0) × (openedFrom (freshCard ten) ≡ stretch 1)
+pub mount-goes : (mountPlan (freshCard ten) (freshCard ten) ≡ goAhead) × (openedFrom (freshCard ten) ≡ stretch 1)
 unfolding computes
 mount-goes = (refl, refl)
 

@@ -15,7 +15,7 @@ use Rattle.sectors.proofs.FlatLaws.{sec-in, set-here, set-there}
 use Rattle.entries.specs.Entries.{goodName, sectorsFor}
 use Rattle.directory.specs.Directory.{entriesOf, gone, named}
 use Rattle.apages.specs.Runs.{runFor}
-use Rattle.card.specs.Plan.{Plan, guard, need, ended, doIt, refused, done, Changed}
+use Rattle.card.specs.Plan.{Plan, guard, need, ended, doIt, doAt, refused, done, Changed}
 use Rattle.session.specs.declared.Opened.{Opened}
 use Rattle.session.specs.declared.Session.{Session}
 use Rattle.session.specs.declared.Session.the-variants.{Closed, Open}
@@ -77,7 +77,7 @@ one-shows w reach r S i z l m h o c =
 unfoldable pub planBy : (Opened → List ℕ → List ℕ → Found) → (Opened → List ℕ → ℕ → Found) → Opened → List ℕ → List ℕ → List ℕ → Plan
 planBy place run s work n d =
     guard 2 (fits s work) (guard 9 (not (s .worn)) (guard 5 (goodName n)
-    (need 7 (place s work n) (λ j. need 8 (run s work (sectorsFor (length d))) (λ a. doIt j a)))))
+    (need 7 (place s work n) (λ j. need 8 (run s work (sectorsFor (length d))) (λ a. doIt j (record { 0 = a }))))))
 
 unfoldable pub putBy : (Opened → List ℕ → List ℕ → Found) → (Opened → List ℕ → ℕ → Found) → Session → List ℕ → List ℕ → List ℕ → Changed
 putBy place run Closed work n d = record { answer = refused 4; image = work }
@@ -124,11 +124,11 @@ unfolding computes
 remove-finds = refl
 
 remove-plan : (s : Opened) (work n : List ℕ) (j : ℕ) → fits s work ≡ true → s .worn ≡ false → goodName n ≡ true
-    → firstAt (named (presentTable s (sec work)) (presentTable s (sec work)) n) 0 (entriesOf (s .geo) (sec work)) ≡ At j → removePlan s work n ≡ doIt j 0
+    → firstAt (named (presentTable s (sec work)) (presentTable s (sec work)) n) 0 (entriesOf (s .geo) (sec work)) ≡ At j → removePlan s work n ≡ doAt j
 unfolding removePlan guard need
 remove-plan s work n j f w g p = rw (f, g, p, w)
 
-remove-done : (s : Opened) (card work : List ℕ) (p : Pending) (m : List Item) (n : List ℕ) (j : ℕ) → removePlan s work n ≡ doIt j 0
+remove-done : (s : Opened) (card work : List ℕ) (p : Pending) (m : List Item) (n : List ℕ) (j : ℕ) → removePlan s work n ≡ doAt j
     → after (removeC n) (mk card work (Open s) p m) ≡ mk card (removeWork s j work n) (Open s) (allWritten (removeWork s j work n) p) m
 unfolding after edited remove ended done byNumber
 remove-done s card work p m n j e = rw e

@@ -16,7 +16,7 @@ use Rattle.words.proofs.WordLaws.{wordBytes-length}
 use Rattle.words.proofs.SpliceLaws.{splice-length, splice-before, splice-after, splice-in}
 use Rattle.sectors.specs.Sectors.{applySteps}
 use Rattle.counts.specs.Stamps.{maxTx}
-use Rattle.card.specs.Plan.{doIt, guard}
+use Rattle.card.specs.Plan.{goAhead, guard}
 use Rattle.session.specs.declared.Session.the-variants.{Open}
 use Rattle.session.specs.Fits.{fits}
 use Rattle.session.proofs.FitLaws.{Fit, fit-inv}
@@ -93,7 +93,7 @@ module _ (n : ℕ) (f : Far n) where
   pub live : Live (stretch (n + 1)) (img n) (img n) (f .p) (f .m)
   live = inv (f .reach)
 
-  pub far-goes : bothPlan (stretch (n + 1)) (img n) (img n) (guard 9 (not false) (doIt 0 0)) ≡ doIt 0 0
+  pub far-goes : bothPlan (stretch (n + 1)) (img n) (img n) (guard 9 (not false) goAhead) ≡ goAhead
   far-goes = sync-plan (stretch (n + 1)) (img n) (img n) (F .sized) far-fits refl
 
   pub far-work : syncWork (stretch (n + 1)) (img n) ≡ img (n + 1)

@@ -38,7 +38,7 @@ unfoldable pub start : List ℕ
 start = applySteps (mountSteps (freshCard least)) (freshCard least)
 
 unfoldable pub removed : List ℕ
-removed = removeWork (leastAt 2) 0 (syncWork (leastAt 1) (putWork (leastAt 1) 0 6 start a seven)) a
+removed = removeWork (leastAt 2) 0 (syncWork (leastAt 1) (putWork (leastAt 1) 0 (record { 0 = 6 }) start a seven)) a
 
 -- both sessions fit
 start-fits : fits (leastAt 1) start ≡ true

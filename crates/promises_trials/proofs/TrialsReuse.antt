@@ -10,6 +10,7 @@ use native.Mathlib.Omega.{arith}
 use lib.ListN.{length}
 use Rattle.words.specs.declared.Found.{Found}
 use Rattle.words.specs.declared.Found.the-variants.{At}
+use Rattle.sectors.specs.declared.Sector.{Sector}
 use Rattle.sectors.specs.Sectors.{sec, setSec}
 use Rattle.entries.specs.Entries.{goodName, sectorsFor}
 use Rattle.card.specs.Plan.{guard, need, ended, doIt, done, Changed}
@@ -26,13 +27,13 @@ use Rattle.promises_trials.proofs.TrialsSync.{some-none}
 use Rattle.promises_trials.proofs.TrialsEdit.{PutsRead, one-shows, planBy, putBy, lowestIn, runNow, placeNow, workR, removed, reach-removed, removed-fits}
 
 -- a put that finds an entry and a run goes through
-by-plan : (place : Opened → List ℕ → List ℕ → Found) (run : Opened → List ℕ → ℕ → Found) (s : Opened) (work n d : List ℕ) (j i : ℕ) → fits s work ≡ true
-    → s .worn ≡ false → goodName n ≡ true → place s work n ≡ At j → run s work (sectorsFor (length d)) ≡ At i → planBy place run s work n d ≡ doIt j i
+by-plan : (place : Opened → List ℕ → List ℕ → Found) (run : Opened → List ℕ → ℕ → Found) (s : Opened) (work n d : List ℕ) (j : ℕ) (i : Sector) → fits s work ≡ true
+    → s .worn ≡ false → goodName n ≡ true → place s work n ≡ At j → run s work (sectorsFor (length d)) ≡ At (i .0) → planBy place run s work n d ≡ doIt j i
 unfolding planBy guard need
 by-plan place run s work n d j i f w g p r = rw (f, g, p, r, w)
 
 -- what it gives
-by-done : (place : Opened → List ℕ → List ℕ → Found) (run : Opened → List ℕ → ℕ → Found) (s : Opened) (work n d : List ℕ) (j i : ℕ)
+by-done : (place : Opened → List ℕ → List ℕ → Found) (run : Opened → List ℕ → ℕ → Found) (s : Opened) (work n d : List ℕ) (j : ℕ) (i : Sector)
     → planBy place run s work n d ≡ doIt j i → putBy place run (Open s) work n d ≡ record { answer = done 0; image = putWork s j i work n d }
 unfolding putBy ended
 by-done place run s work n d j i e = rw e
@@ -59,7 +60,7 @@ unfolding computes workR removeWork runNow lowestIn
 reuse-finds = (refl, refl, refl)
 
 unfoldable pub workReused : List ℕ
-workReused = putWork (stretch 2) 1 6 workR b (8 ∷ [])
+workReused = putWork (stretch 2) 1 (record { 0 = 6 }) workR b (8 ∷ [])
 
 -- with sector 6 landed alone `a` reads as the content of `b`
 pub reuse-shows : (length workReused ≡ 512 * 10) × (lookup a (shownBy (setSec cardS 6 (sec workReused 6))) ≡ some (8 ∷ []))
@@ -74,8 +75,8 @@ pub cut-view-reused : ¬ PutsRead (putBy placeIn runNow)
 unfolding removed
 cut-view-reused h =
     refuse removed reach-removed _ h b (8 ∷ []) workReused 6
-    (unfold workReused in by-done placeIn runNow (stretch 2) workR b (8 ∷ []) 1 6
-    (by-plan placeIn runNow (stretch 2) workR b (8 ∷ []) 1 6 removed-fits refl (good .1) (reuse-finds .0) (rw (good .2) (reuse-finds .1))))
+    (unfold workReused in by-done placeIn runNow (stretch 2) workR b (8 ∷ []) 1 (record { 0 = 6 })
+    (by-plan placeIn runNow (stretch 2) workR b (8 ∷ []) 1 (record { 0 = 6 }) removed-fits refl (good .1) (reuse-finds .0) (rw (good .2) (reuse-finds .1))))
     card-sized (reuse-shows .0) (omega arith) (some-other _ _ a (8 ∷ []) seven (reuse-shows .1) at-synced not-eight)
 
 -- ---- an entry gets a new name while the cut view shows it
@@ -85,7 +86,7 @@ unfolding computes workR removeWork placeNow
 over-finds = (refl, refl)
 
 unfoldable pub workOver : List ℕ
-workOver = putWork (stretch 2) 0 7 workR b seven
+workOver = putWork (stretch 2) 0 (record { 0 = 7 }) workR b seven
 
 -- with the directory landed alone the file `a` is called `b`
 pub over-shows : (length workOver ≡ 512 * 10) × (lookup a (shownBy (setSec cardS 5 (sec workOver 5))) ≡ none)
@@ -98,6 +99,6 @@ pub new-name-over-cut : ¬ PutsRead (putBy placeNow lowestIn)
 unfolding removed
 new-name-over-cut h =
     refuse removed reach-removed _ h b seven workOver 5
-    (unfold workOver in by-done placeNow lowestIn (stretch 2) workR b seven 0 7
-    (by-plan placeNow lowestIn (stretch 2) workR b seven 0 7 removed-fits refl (good .1) (over-finds .0) (rw (good .2) (reuse-finds .2))))
+    (unfold workOver in by-done placeNow lowestIn (stretch 2) workR b seven 0 (record { 0 = 7 })
+    (by-plan placeNow lowestIn (stretch 2) workR b seven 0 (record { 0 = 7 }) removed-fits refl (good .1) (over-finds .0) (rw (good .2) (reuse-finds .2))))
     card-sized (over-shows .0) (omega arith) (λ e. some-none _ _ a seven at-synced (over-shows .1) (sym e))

@@ -9,10 +9,11 @@ use lib.Dec.{eqb}
 use lib.ListN.{length}
 use Rattle.words.specs.declared.Found.the-variants.{At}
 use Rattle.words.specs.Lists.{every}
+use Rattle.sectors.specs.declared.Sector.{Sector}
 use Rattle.sectors.specs.Sectors.{applySteps}
 use Rattle.sectors.proofs.SectorLaws.{applySteps-length}
 use Rattle.entries.specs.Entries.{goodName, sectorsFor}
-use Rattle.card.specs.Plan.{doIt, guard, need, ended, done}
+use Rattle.card.specs.Plan.{doIt, goAhead, guard, need, ended, done}
 use Rattle.card.specs.Make.{freshCard}
 use Rattle.card.proofs.FreshSectors.{fresh-length}
 use Rattle.card.proofs.MeansParts.{limits-mean}
@@ -40,25 +41,25 @@ isFirst (Open s) = eqb (s .t .0) 1
 -- ---- the calls of any session that fits
 
 -- put goes through where it finds an entry and a run
-put-plan : (s : Opened) (work n d : List ℕ) (j i : ℕ) → fits s work ≡ true → s .worn ≡ false → goodName n ≡ true
-    → placeIn s work n ≡ At j → runIn s work (sectorsFor (length d)) 0 ≡ At i → putPlan s work n d 0 ≡ doIt j i
+put-plan : (s : Opened) (work n d : List ℕ) (j : ℕ) (i : Sector) → fits s work ≡ true → s .worn ≡ false → goodName n ≡ true
+    → placeIn s work n ≡ At j → runIn s work (sectorsFor (length d)) 0 ≡ At (i .0) → putPlan s work n d 0 ≡ doIt j i
 unfolding guard need
 put-plan s work n d j i f w g p r = put-plain s work n d ∙ rw (f, g, p, r, w)
 
 -- sync goes through
 pub sync-plan : (s : Opened) (card work : List ℕ) → length card ≡ 512 * s .geo .s → fits s work ≡ true → s .worn ≡ false
-    → bothPlan s card work (guard 9 (not (s .worn)) (doIt 0 0)) ≡ doIt 0 0
+    → bothPlan s card work (guard 9 (not (s .worn)) goAhead) ≡ goAhead
 unfolding bothPlan guard
 sync-plan s card work l f w = rw (eq-eqb (length card) (512 * s .geo .s) l, f, w)
 
 -- the world after such a put
-put-done : (s : Opened) (card work : List ℕ) (p : Pending) (m : List Item) (n d : List ℕ) (j i : ℕ) → putPlan s work n d 0 ≡ doIt j i
+put-done : (s : Opened) (card work : List ℕ) (p : Pending) (m : List Item) (n d : List ℕ) (j : ℕ) (i : Sector) → putPlan s work n d 0 ≡ doIt j i
     → after (putC n d 0) (mk card work (Open s) p m) ≡ mk card (putWork s j i work n d) (Open s) (allWritten (putWork s j i work n d) p) m
 unfolding after edited putAt ended done byNumber
 put-done s card work p m n d j i e = rw e
 
 -- and after such a sync
-pub sync-done : (s : Opened) (card work : List ℕ) (p : Pending) (m : List Item) → bothPlan s card work (guard 9 (not (s .worn)) (doIt 0 0)) ≡ doIt 0 0
+pub sync-done : (s : Opened) (card work : List ℕ) (p : Pending) (m : List Item) → bothPlan s card work (guard 9 (not (s .worn)) goAhead) ≡ goAhead
     → after syncC (mk card work (Open s) p m)
     ≡ mk (applySteps (syncSteps s card work []) card) (syncWork s work) (Open (grown (atTop s) s)) (play (syncSteps s card work []) p) (shownIn (Open s) work)
 unfolding after stepped stepsOf syncsBy sync syncDone ended done byNumber
@@ -94,20 +95,20 @@ pub good : (goodName a ≡ true) × (goodName b ≡ true) × (sectorsFor (length
 unfolding goodName sectorsFor every
 good = (refl, refl, refl)
 
-a-goes : putPlan (stretch 1) start a seven 0 ≡ doIt 0 6
+a-goes : putPlan (stretch 1) start a seven 0 ≡ doIt 0 (record { 0 = 6 })
 a-goes =
     let f : fits (stretch 1) start ≡ true = unfold mounted in always-fits reach-mounted in
-    put-plan (stretch 1) start a seven 0 6 f refl (good .0) (finds .0) (rw (good .2) (finds .1))
+    put-plan (stretch 1) start a seven 0 (record { 0 = 6 }) f refl (good .0) (finds .0) (rw (good .2) (finds .1))
 
 pub reach-putA : Reach putA
 unfolding mounted putA workA
-reach-putA = subst Reach (put-done (stretch 1) start start _ _ a seven 0 6 a-goes) (call reach-mounted (putC a seven 0))
+reach-putA = subst Reach (put-done (stretch 1) start start _ _ a seven 0 (record { 0 = 6 }) a-goes) (call reach-mounted (putC a seven 0))
 
 start-sized : length start ≡ 512 * 10
 unfolding start
 start-sized = applySteps-length (mountSteps (freshCard ten)) (freshCard ten) ∙ fresh-length ten ten-ok
 
-sync-goes : bothPlan (stretch 1) start workA (guard 9 (not false) (doIt 0 0)) ≡ doIt 0 0
+sync-goes : bothPlan (stretch 1) start workA (guard 9 (not false) goAhead) ≡ goAhead
 sync-goes =
     let f : fits (stretch 1) workA ≡ true = unfold putA in always-fits reach-putA in
     sync-plan (stretch 1) start workA start-sized f refl
@@ -116,14 +117,14 @@ pub reach-synced : Reach synced
 unfolding mounted putA synced cardS workS grown atTop
 reach-synced = subst Reach (sync-done (stretch 1) start workA _ _ sync-goes) (call reach-putA syncC)
 
-pub b-goes : putPlan (stretch 2) workS b seven 0 ≡ doIt 1 7
+pub b-goes : putPlan (stretch 2) workS b seven 0 ≡ doIt 1 (record { 0 = 7 })
 b-goes =
     let f : fits (stretch 2) workS ≡ true = unfold synced in always-fits reach-synced in
-    put-plan (stretch 2) workS b seven 1 7 f refl (good .1) (finds .2) (rw (good .2) (finds .3))
+    put-plan (stretch 2) workS b seven 1 (record { 0 = 7 }) f refl (good .1) (finds .2) (rw (good .2) (finds .3))
 
 pub reach-putB : Reach putB
 unfolding synced putB workB
-reach-putB = subst Reach (put-done (stretch 2) cardS workS _ _ b seven 1 7 b-goes) (call reach-synced (putC b seven 0))
+reach-putB = subst Reach (put-done (stretch 2) cardS workS _ _ b seven 1 (record { 0 = 7 }) b-goes) (call reach-synced (putC b seven 0))
 
 fits-B : fits (stretch 2) workB ≡ true
 unfolding putB
@@ -133,7 +134,7 @@ sizes : (length cardS ≡ 512 * 10) × (length workB ≡ 512 * 10)
 unfolding cardS
 sizes = (applySteps-length (syncSteps (stretch 1) start workA []) start ∙ start-sized, fit-inv (stretch 2) workB fits-B .sized)
 
-again-goes : bothPlan (stretch 2) cardS workB (guard 9 (not false) (doIt 0 0)) ≡ doIt 0 0
+again-goes : bothPlan (stretch 2) cardS workB (guard 9 (not false) goAhead) ≡ goAhead
 again-goes = sync-plan (stretch 2) cardS workB (sizes .0) fits-B refl
 
 -- ---- what is used of them

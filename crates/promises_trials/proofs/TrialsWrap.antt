@@ -17,7 +17,7 @@ use Rattle.counts.specs.Stamps.{stampOf, alive, showing}
 use Rattle.entries.specs.Entries.{versionOf, newOf, oldOf, shownBytes, shown, goodName, sectorsFor}
 use Rattle.directory.specs.Directory.{entriesOf}
 use Rattle.card.specs.declared.Line.{Line}
-use Rattle.card.specs.Plan.{Plan, guard, need, ended, doIt, refused, done, Changed}
+use Rattle.card.specs.Plan.{Plan, guard, need, ended, doIt, goAhead, refused, done, Changed}
 use Rattle.card.specs.Files.{consFile, filesOf}
 use Rattle.card.specs.Reading.{filesIn, filesShown}
 use Rattle.session.specs.declared.Opened.{Opened}
@@ -84,12 +84,12 @@ wrapped tab x = leb (x .txc .0 % 2147483648) (getD tab (x .cc .0) 0)
 unfoldable pub onSync : Session → List ℕ → List ℕ → Ended
 onSync Closed card work = record { answer = refused 4; session = Closed; card = card; work = work }
 onSync (Open s) card work =
-    ended (bothPlan s card work (guard 9 (not (s .worn)) (doIt 0 0))) (λ k. record { answer = refused k; session = Open s; card = card; work = work })
+    ended (bothPlan s card work (guard 9 (not (s .worn)) goAhead)) (λ k. record { answer = refused k; session = Open s; card = card; work = work })
     (λ j i. record { answer = done 0; session = Open (grown false s); card = applySteps (syncSteps s card work []) card; work = syncWork s work })
 
 -- and its put does not ask whether t has passed the top
 unfoldable pub onPlan : Opened → List ℕ → List ℕ → List ℕ → Plan
-onPlan s work n d = guard 5 (goodName n) (need 7 (placeIn s work n) (λ j. need 8 (runIn s work (sectorsFor (length d)) 0) (λ i. doIt j i)))
+onPlan s work n d = guard 5 (goodName n) (need 7 (placeIn s work n) (λ j. need 8 (runIn s work (sectorsFor (length d)) 0) (λ i. doIt j (record { 0 = i }))))
 
 unfoldable pub onPut : Session → List ℕ → List ℕ → List ℕ → Changed
 onPut Closed work n d = record { answer = refused 4; image = work }
@@ -99,7 +99,7 @@ onPut (Open s) work n d =
 -- ---- the history: fresh card, mount, 2,147,483,647 syncs, put `b` of 0 bytes; the directory lands, and a cut
 
 unfoldable pub workPast : List ℕ
-workPast = putWork (stretch 2147483648) 0 0 (img 2147483647) b []
+workPast = putWork (stretch 2147483648) 0 (record { 0 = 0 }) (img 2147483647) b []
 
 unfoldable pub pastCard : List ℕ
 pastCard = setSec (img 2147483647) 5 (sec workPast 5)

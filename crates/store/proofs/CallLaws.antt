@@ -8,13 +8,14 @@ use lib.ListN.{length}
 use Rattle.words.specs.declared.Found.{Found}
 use Rattle.words.specs.declared.Found.the-variants.{At, Nowhere}
 use Rattle.words.specs.Lists.{firstAt}
+use Rattle.sectors.specs.declared.Sector.{Sector}
 use Rattle.sectors.specs.Sectors.{sec}
 use Rattle.counts.specs.declared.View.{View}
 use Rattle.counts.specs.Stamps.{tableIn}
 use Rattle.entries.specs.Entries.{goodName, sectorsFor}
 use Rattle.directory.specs.Directory.{entriesOf, named}
 use Rattle.card.specs.declared.Answer.{Answer}
-use Rattle.card.specs.Plan.{Plan, refuse, doIt, guard, need, ended, refused, done, Changed}
+use Rattle.card.specs.Plan.{Plan, refuse, doIt, doAt, guard, need, ended, refused, done, Changed}
 use Rattle.card.proofs.PlanLaws.{guard-no, guard-yes, need-no, need-yes}
 use Rattle.session.specs.declared.Opened.{Opened}
 use Rattle.session.specs.declared.Session.{Session}
@@ -71,7 +72,7 @@ module _ (s : Opened) (work n d : List ℕ) (goal : ℕ) {o : Session} (eo : o �
   put-stop ep f = leaves _ (put-by ep) f refl
 
   abbrev placed : ℕ → Plan
-  placed j = need 8 (runIn s work (sectorsFor (length d)) goal) (λ a. doIt j a)
+  placed j = need 8 (runIn s work (sectorsFor (length d)) goal) (λ a. doIt j (record { 0 = a }))
 
   put-ok : fits s work ≡ true → s .worn ≡ false → goodName n ≡ true → goal < s .geo .s → putPlan s work n d goal ≡ need 7 (placeIn s work n) placed
   unfolding putPlan
@@ -100,12 +101,12 @@ module _ (s : Opened) (work n d : List ℕ) (goal : ℕ) {o : Session} (eo : o �
 
   pub put-8 : {r : Answer} {j : ℕ} → fits s work ≡ true → s .worn ≡ false → goodName n ≡ true → goal < s .geo .s → placeIn s work n ≡ At j
       → runIn s work (sectorsFor (length d)) goal ≡ Nowhere → r ≡ refused 8 → Leaves (putAt o work n d goal) r work
-  put-8 {r} {j} z w g b p q = put-stop (put-ok z w g b ∙ need-yes 7 placed p ∙ need-no 8 (λ a. doIt j a) q)
+  put-8 {r} {j} z w g b p q = put-stop (put-ok z w g b ∙ need-yes 7 placed p ∙ need-no 8 (λ a. doIt j (record { 0 = a })) q)
 
-  pub put-done : {r : Answer} {j a : ℕ} {x : List ℕ} → fits s work ≡ true → s .worn ≡ false → goodName n ≡ true → goal < s .geo .s → placeIn s work n ≡ At j
-      → runIn s work (sectorsFor (length d)) goal ≡ At a → r ≡ done 0 → x ≡ putWork s j a work n d → Leaves (putAt o work n d goal) r x
+  pub put-done : {r : Answer} {j : ℕ} {a : Sector} {x : List ℕ} → fits s work ≡ true → s .worn ≡ false → goodName n ≡ true → goal < s .geo .s → placeIn s work n ≡ At j
+      → runIn s work (sectorsFor (length d)) goal ≡ At (a .0) → r ≡ done 0 → x ≡ putWork s j a work n d → Leaves (putAt o work n d goal) r x
   unfolding ended
-  put-done {r} {j} z w g b p q f h = leaves _ (put-by (put-ok z w g b ∙ need-yes 7 placed p ∙ need-yes 8 (λ a. doIt j a) q)) f h
+  put-done {r} {j} z w g b p q f h = leaves _ (put-by (put-ok z w g b ∙ need-yes 7 placed p ∙ need-yes 8 (λ a. doIt j (record { 0 = a })) q)) f h
 
 -- the run that code looked for, for as many sectors as the content takes
 pub run-so : (s : Opened) (work : List ℕ) (goal : ℕ) {k m : ℕ} {r o : Found} → k ≡ m → r ≡ runIn s work k goal → r ≡ o → runIn s work m goal ≡ o
@@ -140,7 +141,7 @@ module _ (s : Opened) (work n : List ℕ) {o : Session} (eo : o ≡ Open s) wher
   unfolding ended
   remove-stop ep f = leaves _ (remove-by ep) f refl
 
-  remove-ok : fits s work ≡ true → s .worn ≡ false → goodName n ≡ true → removePlan s work n ≡ need 6 (fileIn s work n) (λ j. doIt j 0)
+  remove-ok : fits s work ≡ true → s .worn ≡ false → goodName n ≡ true → removePlan s work n ≡ need 6 (fileIn s work n) (λ j. doAt j)
   unfolding removePlan
   remove-ok z w g = edit-ok s work n _ z w g
 
@@ -158,9 +159,9 @@ module _ (s : Opened) (work n : List ℕ) {o : Session} (eo : o ≡ Open s) wher
 
   pub remove-6 : {r : Answer} → fits s work ≡ true → s .worn ≡ false → goodName n ≡ true → fileIn s work n ≡ Nowhere → r ≡ refused 6
       → Leaves (remove o work n) r work
-  remove-6 z w g p = remove-stop (remove-ok z w g ∙ need-no 6 (λ j. doIt j 0) p)
+  remove-6 z w g p = remove-stop (remove-ok z w g ∙ need-no 6 (λ j. doAt j) p)
 
   pub remove-done : {r : Answer} {j : ℕ} {x : List ℕ} → fits s work ≡ true → s .worn ≡ false → goodName n ≡ true → fileIn s work n ≡ At j → r ≡ done 0
       → x ≡ removeWork s j work n → Leaves (remove o work n) r x
   unfolding ended
-  remove-done z w g p f h = leaves _ (remove-by (remove-ok z w g ∙ need-yes 6 (λ j. doIt j 0) p)) f h
+  remove-done z w g p f h = leaves _ (remove-by (remove-ok z w g ∙ need-yes 6 (λ j. doAt j) p)) f h

@@ -9,7 +9,7 @@ use lib.ListN.{length}
 use Rattle.sectors.specs.Sectors.{sec, setSec}
 use Rattle.counts.specs.Geometry.{gN, geoOf, countOf}
 use Rattle.card.specs.declared.Answer.{Answer}
-use Rattle.card.specs.Plan.{Plan, refuse, doIt, guard, ended, refused, done, Changed}
+use Rattle.card.specs.Plan.{Plan, refuse, goAhead, guard, ended, refused, done, Changed}
 use Rattle.card.specs.Sound.{shapeOk, sound}
 use Rattle.card.proofs.PlanLaws.{guard-no, guard-yes}
 use Rattle.session.specs.declared.Opened.{Opened}
@@ -87,14 +87,14 @@ unfolding land
 land-closed card work i e f = leaves _ (ap (λ (q : Session). land q card work i) e) f refl
 
 module _ (s : Opened) (card work : List ℕ) (i : ℕ) {o : Session} (eo : o ≡ Open s) where
-  land-by : {p : Plan} → bothPlan s card work (guard 11 (ltb i (s .geo .s)) (doIt 0 0)) ≡ p
+  land-by : {p : Plan} → bothPlan s card work (guard 11 (ltb i (s .geo .s)) goAhead) ≡ p
       → land o card work i ≡ ended p (λ k. record { answer = refused k; image = card }) (λ j a. record { answer = done 0; image = setSec card i (sec work i) })
   unfolding land
   land-by ep =
       ap (λ (q : Session). land q card work i) eo
       ∙ ap (λ (p : Plan). ended {A = Changed} p (λ k. record { answer = refused k; image = card }) (λ j a. record { answer = done 0; image = setSec card i (sec work i) })) ep
 
-  land-stop : {k : ℕ} {r : Answer} → bothPlan s card work (guard 11 (ltb i (s .geo .s)) (doIt 0 0)) ≡ refuse k → r ≡ refused k → Leaves (land o card work i) r card
+  land-stop : {k : ℕ} {r : Answer} → bothPlan s card work (guard 11 (ltb i (s .geo .s)) goAhead) ≡ refuse k → r ≡ refused k → Leaves (land o card work i) r card
   unfolding ended
   land-stop ep f = leaves _ (land-by ep) f refl
 

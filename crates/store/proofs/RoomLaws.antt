@@ -8,6 +8,7 @@ use lib.ListN.{length}
 use Rattle.words.specs.declared.Found.the-variants.{At}
 use Rattle.words.specs.Lists.{firstAt}
 use Rattle.words.proofs.FirstLaws.{at-one, found-at}
+use Rattle.sectors.specs.declared.Sector.{Sector}
 use Rattle.sectors.specs.Sectors.{sec}
 use Rattle.counts.specs.declared.Geo.{Geo}
 use Rattle.counts.specs.Geometry.{gN, gP, gF, tableOf}
@@ -118,12 +119,12 @@ module _ (s : Opened) (work : List ℕ) (F : Fit s work) where
       (arith, entries-length (s .geo) work, place-named (presentTable s (sec work)) (cutTable s (sec work)) n (entriesOf (s .geo) (sec work)) j h .below)
 
   -- what put's tests showed is what its change asks
-  put-able : (j goal a : ℕ) (n d : List ℕ) → fits s work ≡ true → goodName n ≡ true → placeIn s work n ≡ At j → runIn s work (sectorsFor (length d)) goal ≡ At a
+  put-able : (j goal : ℕ) (a : Sector) (n d : List ℕ) → fits s work ≡ true → goodName n ≡ true → placeIn s work n ≡ At j → runIn s work (sectorsFor (length d)) goal ≡ At (a .0)
       → CanEdit s work j (putRun a d) n d
   unfolding putRun gF
   put-able j goal a n d f g p r =
       let k = sectorsFor (length d) in
-      let room = run-room-in k goal a r in
+      let room = run-room-in k goal (a .0) r in
       let below = place-below n j p in
       record {
         laid = fit-laid s work f;
@@ -132,9 +133,9 @@ module _ (s : Opened) (work : List ℕ) (F : Fit s work) where
         short = short-name n g;
         enough = unfold sectorsFor in omega arith;
         top = omega (arith, L .covered);
-        page = run-page-in k goal a r;
+        page = run-page-in k goal (a .0) r;
         room = omega (arith, F .sized);
-        inside = λ h. room-in k goal a h r .0;
+        inside = λ h. room-in k goal (a .0) h r .0;
         earlier = omega (arith, earlier-room j below, L .covered);
         earlierPage = earlier-page j below;
       }
@@ -156,8 +157,8 @@ module _ (s : Opened) (work : List ℕ) (F : Fit s work) where
         earlierPage = earlier-page j below;
       }
 
-pub can-put : (s : Opened) (work n d : List ℕ) (goal j a : ℕ) → fits s work ≡ true → goodName n ≡ true → placeIn s work n ≡ At j
-    → runIn s work (sectorsFor (length d)) goal ≡ At a → CanEdit s work j (putRun a d) n d
+pub can-put : (s : Opened) (work n d : List ℕ) (goal j : ℕ) (a : Sector) → fits s work ≡ true → goodName n ≡ true → placeIn s work n ≡ At j
+    → runIn s work (sectorsFor (length d)) goal ≡ At (a .0) → CanEdit s work j (putRun a d) n d
 can-put s work n d goal j a f g p r = put-able s work (fit-inv s work f) j goal a n d f g p r
 
 pub can-remove : (s : Opened) (work n : List ℕ) (j : ℕ) → fits s work ≡ true → goodName n ≡ true

@@ -5,7 +5,7 @@ use mathlib.Core.List.{List, []}
 use Prim.Native.Nat.{ℕ, _*_}
 use lib.ListN.{length}
 use Rattle.sectors.specs.Sectors.{applySteps, writesIn}
-use Rattle.card.specs.Plan.{Plan, refuse, doIt, guard, ended, refused, done}
+use Rattle.card.specs.Plan.{Plan, refuse, goAhead, guard, ended, refused, done}
 use Rattle.card.proofs.PlanLaws.{guard-no, guard-yes}
 use Rattle.session.specs.declared.Opened.{Opened}
 use Rattle.session.specs.declared.Session.{Session}
@@ -24,14 +24,14 @@ unfolding sync
 sync-closed card work e f = ends _ (ap (λ (q : Session). sync q card work) e) (f .0) (f .1 ∙ e) refl refl
 
 module _ (s : Opened) (card work : List ℕ) {o : Session} (eo : o ≡ Open s) where
-  sync-by : {p : Plan} → bothPlan s card work (guard 9 (not (s .worn)) (doIt 0 0)) ≡ p
+  sync-by : {p : Plan} → bothPlan s card work (guard 9 (not (s .worn)) goAhead) ≡ p
       → sync o card work ≡ ended p (λ k. record { answer = refused k; session = Open s; card = card; work = work }) (λ j a. syncDone s card work)
   unfolding sync
   sync-by ep =
       ap (λ (q : Session). sync q card work) eo
       ∙ ap (λ (p : Plan). ended {A = Ended} p (λ k. record { answer = refused k; session = Open s; card = card; work = work }) (λ j a. syncDone s card work)) ep
 
-  sync-stop : {k : ℕ} {r : Outcome} → bothPlan s card work (guard 9 (not (s .worn)) (doIt 0 0)) ≡ refuse k → (r .answer ≡ refused k) × (r .session ≡ Open s) → IsEnded r card work (sync o card work)
+  sync-stop : {k : ℕ} {r : Outcome} → bothPlan s card work (guard 9 (not (s .worn)) goAhead) ≡ refuse k → (r .answer ≡ refused k) × (r .session ≡ Open s) → IsEnded r card work (sync o card work)
   unfolding ended
   sync-stop ep f = ends _ (sync-by ep) (f .0) (f .1) refl refl
 
@@ -58,14 +58,14 @@ unfolding unmount
 unmount-closed card work e f = ends _ (ap (λ (q : Session). unmount q card work) e) (f .0) (f .1 ∙ e) refl refl
 
 module _ (s : Opened) (card work : List ℕ) {o : Session} (eo : o ≡ Open s) where
-  unmount-by : {p : Plan} → bothPlan s card work (doIt 0 0) ≡ p
+  unmount-by : {p : Plan} → bothPlan s card work goAhead ≡ p
       → unmount o card work ≡ ended p (λ k. record { answer = refused k; session = Open s; card = card; work = work }) (λ j a. unmountDone s card work)
   unfolding unmount
   unmount-by ep =
       ap (λ (q : Session). unmount q card work) eo
       ∙ ap (λ (p : Plan). ended {A = Ended} p (λ k. record { answer = refused k; session = Open s; card = card; work = work }) (λ j a. unmountDone s card work)) ep
 
-  unmount-stop : {k : ℕ} {r : Outcome} → bothPlan s card work (doIt 0 0) ≡ refuse k → (r .answer ≡ refused k) × (r .session ≡ Open s) → IsEnded r card work (unmount o card work)
+  unmount-stop : {k : ℕ} {r : Outcome} → bothPlan s card work goAhead ≡ refuse k → (r .answer ≡ refused k) × (r .session ≡ Open s) → IsEnded r card work (unmount o card work)
   unfolding ended
   unmount-stop ep f = ends _ (unmount-by ep) (f .0) (f .1) refl refl
 

@@ -6,6 +6,7 @@ use lib.ListN.{length, getD}
 use lib.Dec.{ltb}
 use Rattle.words.specs.declared.Found.{Found}
 use Rattle.words.specs.Lists.{firstAt, splice, pad, orElse}
+use Rattle.sectors.specs.declared.Sector.{Sector}
 use Rattle.sectors.specs.Sectors.{sec}
 use Rattle.entries.specs.declared.Run.{Run}
 use Rattle.entries.specs.declared.Version.{Version}
@@ -14,7 +15,7 @@ use Rattle.entries.specs.Entries.{entryOf, entryBytes, sectorsFor, goodName, ch
 use Rattle.directory.specs.Directory.{entriesOf, spotOf, setEntry, gone, named}
 use Rattle.apages.specs.Runs.{runFor}
 use Rattle.apages.specs.Index.{changeBits}
-use Rattle.card.specs.Plan.{Plan, guard, need, ended, doIt, refused, done, Changed}
+use Rattle.card.specs.Plan.{Plan, guard, need, ended, doIt, doAt, refused, done, Changed}
 use Rattle.card.specs.Files.{runOf, runAt}
 use Rattle.session.specs.declared.Opened.{Opened}
 use Rattle.session.specs.declared.Session.{Session}
@@ -37,7 +38,7 @@ runIn s work k goal = runFor k goal (presentPage s (sec work)) (cutPage s (sec w
 unfoldable pub putPlan : Opened → List ℕ → List ℕ → List ℕ → ℕ → Plan
 putPlan s work n d goal =
     guard 2 (fits s work) (guard 9 (not (s .worn)) (guard 5 (goodName n) (guard 11 (ltb goal (s .geo .s))
-    (need 7 (placeIn s work n) (λ j. need 8 (runIn s work (sectorsFor (length d)) goal) (λ a. doIt j a))))))
+    (need 7 (placeIn s work n) (λ j. need 8 (runIn s work (sectorsFor (length d)) goal) (λ a. doIt j (record { 0 = a })))))))
 
 -- "Content goes to the lowest run ..; The last sector is filled with zeros."
 unfoldable pub putContent : Run → List ℕ → List ℕ → List ℕ
@@ -52,10 +53,10 @@ editWork s j v work n d =
     (setEntry (spotOf (s .geo) j) (entryBytes (changed tp (ownStamp s) e n v)) (putContent (runOf v) d work))
 
 -- the run of content d from sector a on
-unfoldable pub putRun : ℕ → List ℕ → Run
-putRun a d = record { start = record { 0 = a }; sectors = sectorsFor (length d); bytes = length d }
+unfoldable pub putRun : Sector → List ℕ → Run
+putRun a d = record { start = a; sectors = sectorsFor (length d); bytes = length d }
 
-unfoldable pub putWork : Opened → ℕ → ℕ → List ℕ → List ℕ → List ℕ → List ℕ
+unfoldable pub putWork : Opened → ℕ → Sector → List ℕ → List ℕ → List ℕ → List ℕ
 putWork s j a work n d = editWork s j (Present (putRun a d)) work n d
 
 -- "Put takes a goal sector"
@@ -72,7 +73,7 @@ put s work n d = putAt s work n d 0
 unfoldable pub removePlan : Opened → List ℕ → List ℕ → Plan
 removePlan s work n =
     guard 2 (fits s work) (guard 9 (not (s .worn)) (guard 5 (goodName n)
-    (need 6 (firstAt (named (presentTable s (sec work)) (presentTable s (sec work)) n) 0 (entriesOf (s .geo) (sec work))) (λ j. doIt j 0))))
+    (need 6 (firstAt (named (presentTable s (sec work)) (presentTable s (sec work)) n) 0 (entriesOf (s .geo) (sec work))) (λ j. doAt j))))
 
 -- "Remove writes an absent new version."
 unfoldable pub removeWork : Opened → ℕ → List ℕ → List ℕ → List ℕ

@@ -6,7 +6,7 @@ use Rattle.sectors.specs.Sectors.{sec}
 use Rattle.apages.specs.Free.{freeIn, waitingIn}
 use Rattle.card.specs.declared.Line.{Line}
 use Rattle.card.specs.declared.Lined.{Lined}
-use Rattle.card.specs.Plan.{Plan, refuse, guard, ended, doIt, refused, Got, Listed}
+use Rattle.card.specs.Plan.{Plan, refuse, guard, ended, goAhead, refused, Got, Listed}
 use Rattle.card.specs.Files.{getPlan, getEnd, listPlan, listEnd, noLine, lineEnd}
 use Rattle.session.specs.declared.Opened.{Opened}
 use Rattle.session.specs.declared.Session.{Session}
@@ -32,7 +32,7 @@ list s work lines = listEnd (sessionFiles s work) lines (listTests s work (lengt
 -- the line at a position (4, 2)
 unfoldable pub line : Session → List ℕ → ℕ → Lined
 line Closed work i = record { answer = refused 4; line = noLine }
-line (Open s) work i = lineEnd (presentFiles s (sec work)) i (guard 2 (fits s work) (doIt 0 0))
+line (Open s) work i = lineEnd (presentFiles s (sec work)) i (guard 2 (fits s work) goAhead)
 
 -- what free answers with a refusal: "a zero count", both figures
 unfoldable pub noFigures : ℕ → Room
@@ -49,4 +49,4 @@ figures s work =
 
 unfoldable pub free : Session → List ℕ → Room
 free Closed work = noFigures 4
-free (Open s) work = ended (guard 2 (fits s work) (doIt 0 0)) noFigures (λ j a. figures s work)
+free (Open s) work = ended (guard 2 (fits s work) goAhead) noFigures (λ j a. figures s work)

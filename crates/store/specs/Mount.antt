@@ -8,7 +8,7 @@ use lib.Dec.{ltb, eqb}
 use Rattle.sectors.specs.Sectors.{sec, applySteps}
 use Rattle.counts.specs.Geometry.{gN, geoOf, countOf, tableOf}
 use Rattle.card.specs.declared.Answer.{Answer}
-use Rattle.card.specs.Plan.{Plan, guard, ended, doIt, refused, done}
+use Rattle.card.specs.Plan.{Plan, guard, ended, goAhead, refused, done}
 use Rattle.card.specs.Sound.{shapeOk, sound}
 use Rattle.session.specs.declared.Opened.{Opened}
 use Rattle.session.specs.declared.Session.{Session}
@@ -34,7 +34,7 @@ pub record IsEnded (r : Outcome) (card′ work′ : List ℕ) (e : Ended) : Type
 unfoldable pub mountPlan : List ℕ → List ℕ → Plan
 mountPlan card work =
     guard 1 (shapeOk card && eqb (length work) (length card))
-    (guard 2 (sound card) (guard 3 (ltb (countOf (sec card)) (gN (geoOf (sec card)))) (doIt 0 0)))
+    (guard 2 (sound card) (guard 3 (ltb (countOf (sec card)) (gN (geoOf (sec card)))) goAhead))
 
 -- "The session has c = the old C and t = table word c, plus 1."
 unfoldable pub openedFrom : List ℕ → Opened

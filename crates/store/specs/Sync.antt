@@ -5,7 +5,7 @@ use Prim.Native.Nat.{ℕ, _+_, _*_}
 use lib.ListN.{length}
 use lib.Dec.{ltb, eqb}
 use Rattle.sectors.specs.Sectors.{sec, setSec, applySteps, writesIn}
-use Rattle.card.specs.Plan.{Plan, guard, ended, doIt, refused, done, Changed}
+use Rattle.card.specs.Plan.{Plan, guard, ended, goAhead, refused, done, Changed}
 use Rattle.session.specs.declared.Opened.{Opened}
 use Rattle.session.specs.declared.Session.{Session}
 use Rattle.session.specs.declared.Session.the-variants.{Closed, Open}
@@ -21,7 +21,7 @@ bothPlan s card work p = guard 1 (eqb (length card) (512 * s .geo .s)) (guard 2 
 unfoldable pub land : Session → List ℕ → List ℕ → ℕ → Changed
 land Closed card work i = record { answer = refused 4; image = card }
 land (Open s) card work i =
-    ended (bothPlan s card work (guard 11 (ltb i (s .geo .s)) (doIt 0 0))) (λ k. record { answer = refused k; image = card })
+    ended (bothPlan s card work (guard 11 (ltb i (s .geo .s)) goAhead)) (λ k. record { answer = refused k; image = card })
     (λ j a. record { answer = done 0; image = setSec card i (sec work i) })
 
 -- "Then t grows by 1. At t = 2,147,483,647 it lands too, t stays, and the session is worn"
@@ -43,7 +43,7 @@ syncDone s card work =
 unfoldable pub sync : Session → List ℕ → List ℕ → Ended
 sync Closed card work = record { answer = refused 4; session = Closed; card = card; work = work }
 sync (Open s) card work =
-    ended (bothPlan s card work (guard 9 (not (s .worn)) (doIt 0 0)))
+    ended (bothPlan s card work (guard 9 (not (s .worn)) goAhead))
     (λ k. record { answer = refused k; session = Open s; card = card; work = work })
     (λ j a. syncDone s card work)
 
@@ -56,5 +56,5 @@ unmountDone s card work =
 unfoldable pub unmount : Session → List ℕ → List ℕ → Ended
 unmount Closed card work = record { answer = refused 4; session = Closed; card = card; work = work }
 unmount (Open s) card work =
-    ended (bothPlan s card work (doIt 0 0)) (λ k. record { answer = refused k; session = Open s; card = card; work = work })
+    ended (bothPlan s card work goAhead) (λ k. record { answer = refused k; session = Open s; card = card; work = work })
     (λ j a. unmountDone s card work)

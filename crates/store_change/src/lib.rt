@@ -80,8 +80,8 @@ fn edit(s: Opened, work: &mut [u8], name: &[u8], content: &[u8], j: usize, v: Ve
 
 // Put in the working image: entry j and the run from sector a on, as its searches find them, can take it.
 pub fn put_in(s: Opened, work: &mut [u8], name: &[u8], content: &[u8], j: usize, a: Sector)
-    requires { ⌜ CanEdit s (now work) j (putRun (a .0) (now content)) (now name) (now content) ⌝ }
-    ensures { λ _. ⌜ now (work .exit) ≡ putWork s j (a .0) (now (work .entry)) (now (name .entry)) (now (content .entry)) ⌝ }
+    requires { ⌜ CanEdit s (now work) j (putRun a (now content)) (now name) (now content) ⌝ }
+    ensures { λ _. ⌜ now (work .exit) ≡ putWork s j a (now (work .entry)) (now (name .entry)) (now (content .entry)) ⌝ }
 {
     let sectors = sectors_of(content) as u32;
     let bytes = content.len() as u32;

@@ -13,7 +13,7 @@ use Rattle.counts.specs.declared.Geo.{Geo}
 use Rattle.counts.specs.declared.View.{View}
 use Rattle.counts.specs.Inner.{LaidOut}
 use Rattle.card.specs.declared.Line.{Line}
-use Rattle.card.specs.Plan.{guard, ended, doIt, refused, done, Listed}
+use Rattle.card.specs.Plan.{guard, ended, goAhead, refused, done, Listed}
 use Rattle.card.specs.Files.{noLine, listPlan, listEnd}
 use Rattle.session.specs.declared.Opened.{Opened}
 use Rattle.session.specs.declared.Session.{Session}
@@ -104,7 +104,7 @@ in-fills g v img lines = rw (in-text g v img (length lines)) (go (leb (length (f
     fs = filesBy g v img
 
     go : (b : Bool) → leb (length fs) (length lines) ≡ b
-        → Fills (cond b (record { answer = done (length fs); geo = g; view = v }) (noListing 10)) img lines (listEnd fs lines (guard 10 b (doIt 0 0)))
+        → Fills (cond b (record { answer = done (length fs); geo = g; view = v }) (noListing 10)) img lines (listEnd fs lines (guard 10 b goAhead))
     go true e = (refl, filledTo-is fs (length fs) lines (omega arith) (leb-true _ _ e) ∙ ap (λ (r : List Line). r ++ drop (length fs) lines) (take-length fs))
     go false e = none-fills 10 img lines
 

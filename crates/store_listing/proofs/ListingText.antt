@@ -7,7 +7,7 @@ use lib.Dec.{leb}
 use lib.ListN.{length}
 use Rattle.counts.specs.declared.Geo.{Geo}
 use Rattle.counts.specs.declared.View.{View}
-use Rattle.card.specs.Plan.{guard, ended, doIt, done}
+use Rattle.card.specs.Plan.{guard, ended, goAhead, done}
 use Rattle.card.specs.Files.{listPlan}
 use Rattle.session.specs.declared.Opened.{Opened}
 use Rattle.session.specs.declared.Session.the-variants.{Open}
@@ -22,7 +22,7 @@ pub in-text : (g : Geo) (v : View) (img : List ℕ) (room : ℕ) → listingIn g
 unfolding listingIn listPlan viewListing guard ended
 in-text g v img room = go (leb (length (filesBy g v img)) room)
   where
-    go : (b : Bool) → ended (guard 10 b (doIt 0 0)) noListing (λ j a. viewListing g v img)
+    go : (b : Bool) → ended (guard 10 b goAhead) noListing (λ j a. viewListing g v img)
         ≡ cond b (record { answer = done (length (filesBy g v img)); geo = g; view = v }) (noListing 10)
     go true = refl
     go false = refl

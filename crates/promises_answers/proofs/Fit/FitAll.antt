@@ -8,6 +8,7 @@ use lib.ListN.{length}
 use lib.Seq.{getD-set-same}
 use Rattle.words.specs.declared.Found.the-variants.{At}
 use Rattle.words.specs.Lists.{firstAt}
+use Rattle.sectors.specs.declared.Sector.{Sector}
 use Rattle.sectors.specs.Sectors.{sec}
 use Rattle.counts.specs.Geometry.{gN}
 use Rattle.counts.proofs.GeoLaws.{max-set, past-set}
@@ -37,7 +38,7 @@ use Rattle.promises_answers.proofs.Synced.{sync-length, sync-other, syn
 
 -- ---- put and remove
 
-pub put-fits : (s : Opened) (work n d : List ℕ) (goal j a : ℕ) → putPlan s work n d goal ≡ doIt j a → Fit s (putWork s j a work n d)
+pub put-fits : (s : Opened) (work n d : List ℕ) (goal j : ℕ) (a : Sector) → putPlan s work n d goal ≡ doIt j a → Fit s (putWork s j a work n d)
 unfolding putWork
 put-fits s work n d goal j a h =
     let p = put-inv s work n d goal j a h in
@@ -45,18 +46,18 @@ put-fits s work n d goal j a h =
     let e = place-live s work F (p .live) n j (p .entry) in
     let wc = page-wide (s .geo) (gN (s .geo)) (tcOf s work) work (F .shape) (F .sized) (cut s work F (p .live)) in
     let wp = page-wide (s .geo) (s .c .0) (tpOf s work) work (F .shape) (F .sized) (pres s work F (p .live)) in
-    fit-edit s j a (sectorsFor (length d)) (Present (putRun a d)) work n d
+    fit-edit s j (a .0) (sectorsFor (length d)) (Present (putRun a d)) work n d
     (record {
       ready = put-ready s work (sec work) refl n d goal j a h;
       alone = place-alone (tpOf s work) (tcOf s work) n (entriesOf (s .geo) (sec work)) j (apart-live s work F (p .live)) e;
       named = named-live s work F (p .live) n j (place-named (tpOf s work) (tcOf s work) n (entriesOf (s .geo) (sec work)) j e);
-      free = run-free s work F (p .live) (sectorsFor (length d)) goal a (p .run);
+      free = run-free s work F (p .live) (sectorsFor (length d)) goal (a .0) (p .run);
       name = p .name;
-      clear = λ i lo hi. run-clear (sectorsFor (length d)) goal a _ _ (wp ∙ sym wc) (run-live s work F (p .live) (sectorsFor (length d)) goal a (p .run)) i lo hi .0;
+      clear = λ i lo hi. run-clear (sectorsFor (length d)) goal (a .0) _ _ (wp ∙ sym wc) (run-live s work F (p .live) (sectorsFor (length d)) goal (a .0) (p .run)) i lo hi .0;
       run = λ i. (unfold runOf putRun in count-run (putRun a d) i);
     })
 
-pub remove-fits : (s : Opened) (work n : List ℕ) (j a : ℕ) → removePlan s work n ≡ doIt j a → Fit s (removeWork s j work n)
+pub remove-fits : (s : Opened) (work n : List ℕ) (j : ℕ) (a : Sector) → removePlan s work n ≡ doIt j a → Fit s (removeWork s j work n)
 unfolding removeWork
 remove-fits s work n j a h =
     let p = remove-inv s work n j a h in

@@ -18,7 +18,7 @@ use Rattle.counts.specs.Geometry.{geoOf, tableOf}
 use Rattle.entries.specs.Entries.{shown, goodName}
 use Rattle.directory.specs.Directory.{entriesOf, gone, apart, named}
 use Rattle.directory.proofs.NameLaws.{gone-true, gone-intro, named-true, named-intro, here-gone, one-entry}
-use Rattle.card.specs.Plan.{Plan, refuse, doIt, refused, done, Changed, Got}
+use Rattle.card.specs.Plan.{Plan, refuse, doAt, refused, done, Changed, Got}
 use Rattle.card.specs.Files.{runOf, runAt, getPlan, getEnd}
 use Rattle.card.proofs.SoundLaws.{sound-inv}
 use Rattle.card.specs.Sound.{sound}
@@ -76,7 +76,7 @@ module _ (g : Geo) (tab img n : List ℕ) where
     get-rows =
         means-row 5 (goodName n) _ _ (name-means n)
         (λ e. need-row 6 (firstAt (named tab tab n) 0 ps) _ (NoFile g tab img n) _ no-file a-file
-        (λ j f. guard-row 10 (leb (runAt g tab img j .bytes) (length out)) (doIt j 0) (TooLong g tab img n out) [] (too-long j f) (fits-out j f) (λ h. done-row)))
+        (λ j f. guard-row 10 (leb (runAt g tab img j .bytes) (length out)) (doAt j) (TooLong g tab img n out) [] (too-long j f) (fits-out j f) (λ h. done-row)))
 
   get-number : (out : List ℕ) (p : Plan) → getEnd g tab img out p .answer .number ≡ numberOf p
   unfolding getEnd refused done

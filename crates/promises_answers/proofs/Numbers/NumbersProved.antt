@@ -53,7 +53,7 @@ module _ (s : Opened) (work : List ℕ) (F : Fit s work) where
 
 -- put's entry and run
 placed : (s : Opened) (work n d : List ℕ) (goal : ℕ) → fits s work ≡ true
-    → Follows (placeRows (Open s) work n d) (need 7 (placeIn s work n) (λ j. need 8 (runIn s work (sectorsFor (length d)) goal) (λ a. doIt j a)))
+    → Follows (placeRows (Open s) work n d) (need 7 (placeIn s work n) (λ j. need 8 (runIn s work (sectorsFor (length d)) goal) (λ a. doIt j (record { 0 = a }))))
 placed s work n d goal f =
     need-row 7 (placeIn s work n) _ _ _ (no-entry s work n) (an-entry s work n)
     (λ j h. need-row 8 (runIn s work (sectorsFor (length d)) goal) _ _ _

@@ -14,7 +14,7 @@ use Rattle.counts.specs.declared.Geo.{Geo}
 use Rattle.counts.specs.Geometry.{gN, geoOk, geoOf, countOf}
 use Rattle.card.specs.declared.Line.{Line}
 use Rattle.card.specs.declared.Report.{Report}
-use Rattle.card.specs.Plan.{Plan, refuse, guard, doIt, refused, done, Changed, Listed}
+use Rattle.card.specs.Plan.{Plan, refuse, guard, goAhead, refused, done, Changed, Listed}
 use Rattle.card.specs.Files.{listPlan, listEnd}
 use Rattle.card.specs.Sound.{soundIn, shapeOk, sound}
 use Rattle.card.proofs.SoundLaws.{shape-inv}
@@ -71,7 +71,7 @@ unfolding make refused done makePlan
 of-make g card =
     exactly
     (ended-number (λ (r : Changed). r .answer .number) _ _ (λ k. refl) (λ j a. refl) (makePlan g card))
-    (guard-row 1 (geoOk g && eqb (length card) (512 * g .s)) (doIt 0 0) _ []
+    (guard-row 1 (geoOk g && eqb (length card) (512 * g .s)) goAhead _ []
     (λ e. ⊎-elim (λ q. inl (outside g q)) (λ q. inr (eqb-false _ _ q)) (and-fails (geoOk g) (eqb (length card) (512 * g .s)) e))
     (λ e m. let (a, b) = both (geoOk g) (eqb (length card) (512 * g .s)) e in
     ⊎-elim (λ q. q (limits-mean g .0 a)) (λ q. q (eqb-true _ _ b)) m)
@@ -95,7 +95,7 @@ of-mount card work =
     (λ e. ⊎-elim (λ q. inl (misshapen card q)) (λ q. inr (eqb-false _ _ q)) (and-fails (shapeOk card) (eqb (length work) (length card)) e))
     (λ e m. let (a, b) = both (shapeOk card) (eqb (length work) (length card)) e in ⊎-elim (shapely card a) (λ q. q (eqb-true _ _ b)) m)
     (λ e. means-row 2 (sound card) _ _ (shaped-means card (both (shapeOk card) (eqb (length work) (length card)) e .0))
-    (λ s. guard-row 3 (ltb (countOf (sec card)) (gN (geoOf (sec card)))) (doIt 0 0) (countOf (sec card) ≡ gN (geoOf (sec card))) [] (λ l. omega (arith, ltb-false (countOf (sec card)) (gN (geoOf (sec card))) l, count-most card s))
+    (λ s. guard-row 3 (ltb (countOf (sec card)) (gN (geoOf (sec card)))) goAhead (countOf (sec card) ≡ gN (geoOf (sec card))) [] (λ l. omega (arith, ltb-false (countOf (sec card)) (gN (geoOf (sec card))) l, count-most card s))
     (λ l q. omega (arith, q, ltb-true (countOf (sec card)) (gN (geoOf (sec card))) l)) (λ l. done-row))))
 
 -- ---- reading
@@ -104,8 +104,8 @@ pub of-read : (img : List ℕ) → Exactly (read img .number) (readRows img)
 unfolding read
 of-read img =
     exactly
-    (ended-number (λ (r : Report). r .number) _ _ (λ k. refl) (λ j a. refl) (readPlan img (doIt 0 0)))
-    (reading img (doIt 0 0) [] (λ e s. done-row))
+    (ended-number (λ (r : Report). r .number) _ _ (λ k. refl) (λ j a. refl) (readPlan img goAhead))
+    (reading img goAhead [] (λ e s. done-row))
 
 pub list-number : (files lines : List Line) (p : Plan) → listEnd files lines p .answer .number ≡ numberOf p
 unfolding listEnd refused done
@@ -115,7 +115,7 @@ pub of-read-list : (img : List ℕ) (lines : List Line) → Exactly (readList im
 unfolding readList listPlan
 of-read-list img lines =
     exactly (list-number (filesShown img) lines _)
-    (reading img _ _ (λ e s. le-row 10 (length (filesShown img)) (length lines) (doIt 0 0) [] (λ l. done-row)))
+    (reading img _ _ (λ e s. le-row 10 (length (filesShown img)) (length lines) goAhead [] (λ l. done-row)))
 
 -- ---- an open session
 
@@ -125,15 +125,15 @@ of-list Closed work lines = exactly {rows = listRows Closed work lines} {p = ref
 of-list (Open s) work lines =
     exactly (list-number (presentFiles s (sec work)) lines _)
     (open-row s (means-row 2 (fits s work) _ _ (fits-mean s work)
-    (λ e. le-row 10 (length (presentFiles s (sec work))) (length lines) (doIt 0 0) [] (λ l. done-row))))
+    (λ e. le-row 10 (length (presentFiles s (sec work))) (length lines) goAhead [] (λ l. done-row))))
 
 pub of-free : (s : Session) (work : List ℕ) → Exactly (free s work .number) (freeRows s work)
 unfolding free noFigures figures numberOf
 of-free Closed work = exactly {rows = freeRows Closed work} {p = refuse 4} refl closed-row
 of-free (Open s) work =
     exactly
-    (ended-number (λ (r : Room). r .number) _ _ (λ k. refl) (λ j a. refl) (guard 2 (fits s work) (doIt 0 0)))
-    (open-row s (means-row 2 (fits s work) (doIt 0 0) [] (fits-mean s work) (λ e. done-row)))
+    (ended-number (λ (r : Room). r .number) _ _ (λ k. refl) (λ j a. refl) (guard 2 (fits s work) goAhead))
+    (open-row s (means-row 2 (fits s work) goAhead [] (fits-mean s work) (λ e. done-row)))
 
 -- the first rows of the calls with two images
 pub two-images : (s : Opened) (card work : List ℕ) (p : Plan) (rows : List Row) → Follows rows p
@@ -147,21 +147,21 @@ unfolding land refused done numberOf
 of-land Closed card work i = exactly {rows = landRows Closed card work i} {p = refuse 4} refl closed-row
 of-land (Open s) card work i =
     exactly
-    (ended-number (λ (r : Changed). r .answer .number) _ _ (λ k. refl) (λ j a. refl) (bothPlan s card work (guard 11 (ltb i (s .geo .s)) (doIt 0 0))))
-    (two-images s card work _ _ (lt-row 11 i (s .geo .s) (doIt 0 0) [] (λ l. done-row)))
+    (ended-number (λ (r : Changed). r .answer .number) _ _ (λ k. refl) (λ j a. refl) (bothPlan s card work (guard 11 (ltb i (s .geo .s)) goAhead)))
+    (two-images s card work _ _ (lt-row 11 i (s .geo .s) goAhead [] (λ l. done-row)))
 
 pub of-sync : (s : Session) (card work : List ℕ) → Exactly (sync s card work .answer .number) (syncRows s card work)
 unfolding sync syncDone refused done numberOf
 of-sync Closed card work = exactly {rows = syncRows Closed card work} {p = refuse 4} refl closed-row
 of-sync (Open s) card work =
     exactly
-    (ended-number (λ (r : Ended). r .answer .number) _ _ (λ k. refl) (λ j a. refl) (bothPlan s card work (guard 9 (not (s .worn)) (doIt 0 0))))
-    (two-images s card work _ _ (not-row 9 (s .worn) (doIt 0 0) [] (λ l. done-row)))
+    (ended-number (λ (r : Ended). r .answer .number) _ _ (λ k. refl) (λ j a. refl) (bothPlan s card work (guard 9 (not (s .worn)) goAhead)))
+    (two-images s card work _ _ (not-row 9 (s .worn) goAhead [] (λ l. done-row)))
 
 pub of-unmount : (s : Session) (card work : List ℕ) → Exactly (unmount s card work .answer .number) (unmountRows s card work)
 unfolding unmount unmountDone refused done numberOf
 of-unmount Closed card work = exactly {rows = unmountRows Closed card work} {p = refuse 4} refl closed-row
 of-unmount (Open s) card work =
     exactly
-    (ended-number (λ (r : Ended). r .answer .number) _ _ (λ k. refl) (λ j a. refl) (bothPlan s card work (doIt 0 0)))
-    (two-images s card work (doIt 0 0) [] (done-row))
+    (ended-number (λ (r : Ended). r .answer .number) _ _ (λ k. refl) (λ j a. refl) (bothPlan s card work goAhead))
+    (two-images s card work goAhead [] (done-row))

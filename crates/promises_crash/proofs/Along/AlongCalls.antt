@@ -6,7 +6,7 @@ use Prim.Native.Nat.{ℕ, zero, suc}
 use native.Mathlib.Omega.{arith}
 use Rattle.counts.specs.declared.Geo.{Geo}
 use Rattle.card.specs.Plan.{refused}
-use Rattle.card.proofs.PlanLaws.{go!, guard-num}
+use Rattle.card.proofs.PlanLaws.{ahead!, guard-num}
 use Rattle.card.specs.Make.{make}
 use Rattle.session.specs.declared.Opened.{Opened}
 use Rattle.session.specs.declared.Session.{Session}
@@ -93,7 +93,7 @@ sync-now : (s : Opened) (card work x : List ℕ) → sync (Open s) card work .an
 unfolding sync refused
 sync-now s card work x =
     through (λ (r : Ended). r .answer .number) (λ r. nowOf (r .session) x ≡ some (shownIn (r .session) x)) _ _ (λ k. refl)
-    (both-num s card work (guard-num 8 _ (go! 0 0))) (λ j a e. unfold syncDone nowOf in refl)
+    (both-num s card work (guard-num 8 _ ahead!)) (λ j a e. unfold syncDone nowOf in refl)
 
 moves-sync : (w : World) → Moves syncC (givesAt syncC w) (plainOf w) (plainOf (after syncC w))
 unfolding after stepped givesAt

@@ -9,7 +9,7 @@ use Rattle.sectors.specs.Sectors.{applySteps}
 use Rattle.counts.specs.declared.Geo.{Geo}
 use Rattle.counts.specs.Stamps.{maxTx}
 use Rattle.card.specs.Plan.{refused, done, Changed}
-use Rattle.card.proofs.PlanLaws.{go!, guard-num}
+use Rattle.card.proofs.PlanLaws.{ahead!, guard-num}
 use Rattle.card.specs.Make.{make}
 use Rattle.session.specs.declared.Opened.{Opened}
 use Rattle.session.specs.declared.Session.{Session}
@@ -64,7 +64,7 @@ step-land : (i : ℕ) (s : Session) (card work : List ℕ) (p : Pending) (m : Li
 unfolding after land refused done byNumber
 step-land i Closed card work p m h = h
 step-land i (Open s) card work p m h =
-    by-plan (λ (r : Changed). r .answer .number) FitW (mk card work (Open s) p m) _ _ (λ r. mk (r .image) work (Open s) p m) (λ k. refl) (both-num s card work (guard-num 10 _ (go! 0 0))) h (λ j a e. h)
+    by-plan (λ (r : Changed). r .answer .number) FitW (mk card work (Open s) p m) _ _ (λ r. mk (r .image) work (Open s) p m) (λ k. refl) (both-num s card work (guard-num 10 _ ahead!)) h (λ j a e. h)
 
 -- the session after a sync fits what the sync left
 pub next-fits : (s : Opened) (work : List ℕ) → Fit s work → s .worn ≡ false → fits (grown (atTop s) s) (syncWork s work) ≡ true
@@ -82,7 +82,7 @@ step-sync Closed card work p m h = h
 step-sync (Open s) card work p m h =
     by-plan (λ (r : Ended). r .answer .number) FitW (mk card work (Open s) p m) _ _
     (λ r. mk (r .card) (r .work) (r .session) (play (byNumber (r .answer .number) (syncSteps s card work []) []) p) (shownIn (Open s) work)) (λ k. refl)
-    (both-num s card work (guard-num 8 _ (go! 0 0))) h
+    (both-num s card work (guard-num 8 _ ahead!)) h
     (λ j a e. let (F, live) = sync-live s card work e in finish F live)
   where
     finish : Fit s work → s .worn ≡ false
@@ -97,7 +97,7 @@ step-unmount Closed card work p m h = h
 step-unmount (Open s) card work p m h =
     by-plan (λ (r : Ended). r .answer .number) FitW (mk card work (Open s) p m) _ _
     (λ r. mk (r .card) (r .work) (r .session) (play (byNumber (r .answer .number) (unmountSteps s card work) []) p) (shownIn (Open s) work)) (λ k. refl)
-    (both-num s card work (go! 0 0)) h (λ j a e. tt)
+    (both-num s card work ahead!) h (λ j a e. tt)
 
 mount-closed : (card work : List ℕ) (p : Pending) (m : List Item) → FitW (stepped (mk card work Closed p m) (mount card work) (stepsOf mountC (mk card work Closed p m)) (shownBy card))
 unfolding stepped stepsOf mount mountDone refused done byNumber

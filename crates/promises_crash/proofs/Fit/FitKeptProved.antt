@@ -2,7 +2,7 @@
 use mathlib.Core.List.{List}
 use Prim.Native.Nat.{ℕ}
 use Rattle.card.specs.Plan.{Changed}
-use Rattle.card.proofs.PlanLaws.{go!, guard-num, passing}
+use Rattle.card.proofs.PlanLaws.{ahead!, guard-num, passing}
 use Rattle.session.specs.declared.Opened.{Opened}
 use Rattle.session.specs.declared.Session.the-variants.{Open}
 use Rattle.session.proofs.FitLaws.{fit-intro}
@@ -38,7 +38,7 @@ of-remove s work n f =
 of-sync : (s : Opened) (card work : List ℕ) → Fits s work → FitsIn (sync (Open s) card work .session) (sync (Open s) card work .work)
 unfolding sync
 of-sync s card work f =
-    passing (λ (r : Ended). FitsIn (r .session) (r .work)) _ _ (both-num s card work (guard-num 8 _ (go! 0 0))) (λ k. f)
+    passing (λ (r : Ended). FitsIn (r .session) (r .work)) _ _ (both-num s card work (guard-num 8 _ ahead!)) (λ k. f)
     (λ j a e. let (F, live) = sync-live s card work e in (unfold syncDone in fits-mean _ _ .0 (next-fits s work F live)))
 
 pub keeps-fit : KeepsFit

@@ -9,7 +9,7 @@ use Rattle.apages.specs.Bits.{clearBits}
 use Rattle.apages.specs.Index.{pageIn}
 use Rattle.apages.proofs.FreeLaws.{free-waiting, free-self, waiting-self}
 use Rattle.card.specs.Plan.{refused}
-use Rattle.card.proofs.PlanLaws.{go!, guard-num}
+use Rattle.card.proofs.PlanLaws.{ahead!, guard-num}
 use Rattle.card.proofs.AgreeLaws.{page-agree}
 use Rattle.session.specs.declared.Opened.{Opened}
 use Rattle.session.specs.declared.Session.the-variants.{Open}
@@ -68,7 +68,7 @@ module _ (s : Opened) (work : List ℕ) (fit : fits s work ≡ true) where
   releases : (card : List ℕ) → sync (Open s) card work .answer .number ≡ 0 → After (sync (Open s) card work)
   unfolding sync refused
   releases card h =
-      through (λ (r : Ended). r .answer .number) After _ _ (λ k. refl) (both-num s card work (guard-num 8 _ (go! 0 0)))
+      through (λ (r : Ended). r .answer .number) After _ _ (λ k. refl) (both-num s card work (guard-num 8 _ ahead!))
       (λ j a e. let (F, live) = sync-live s card work e in (unfold syncDone in (rw both-clear (released s work F live)))) h
 
   free-says : FreeSays free s work

@@ -5,6 +5,7 @@ use Prim.Native.Nat.{ℕ, _+_, _*_, _^_, _<_}
 use native.Mathlib.Omega.{arith}
 use borrow.Author.Tests.{eqb-true, ltb-true}
 use lib.ListN.{length}
+use Rattle.sectors.specs.declared.Sector.{Sector}
 use Rattle.sectors.specs.Sectors.{sec, setSec, applySteps}
 use Rattle.sectors.proofs.SectorLaws.{setSec-length}
 use Rattle.sectors.proofs.FlatLaws.{sec-in, set-here, set-there}
@@ -12,7 +13,7 @@ use Rattle.counts.specs.declared.Geo.{Geo}
 use Rattle.counts.specs.Geometry.{gN, geoOf, countOf}
 use Rattle.counts.proofs.GeoLaws.{limits, head-of}
 use Rattle.card.specs.Plan.{Plan, refuse, doIt, ended, refused, done, Changed}
-use Rattle.card.proofs.PlanLaws.{go!, guard-inv, guard-num}
+use Rattle.card.proofs.PlanLaws.{ahead!, guard-inv, guard-num}
 use Rattle.card.specs.Make.{make}
 use Rattle.card.proofs.SoundLaws.{shape-inv}
 use Rattle.session.specs.declared.Opened.{Opened}
@@ -32,7 +33,7 @@ use Rattle.promises_crash.proofs.Leaves.LeavesSync.{sync-done}
 use Rattle.promises_crash.proofs.Leaves.LeavesUnmount.{unmount-done}
 
 -- the card is as long as the session says
-both-sized : (s : Opened) (card work : List ℕ) (pl : Plan) {j a : ℕ} → bothPlan s card work pl ≡ doIt j a → length card ≡ 512 * s .geo .s
+both-sized : (s : Opened) (card work : List ℕ) (pl : Plan) {j : ℕ} {a : Sector} → bothPlan s card work pl ≡ doIt j a → length card ≡ 512 * s .geo .s
 unfolding bothPlan
 both-sized s card work pl h = eqb-true _ _ (guard-inv 1 _ _ h .0)
 
@@ -51,7 +52,7 @@ land-done s card work i l F h =
 pub land-changes : LandChanges
 unfolding land refused
 land-changes s card work i =
-    through (λ (r : Changed). r .answer .number) (λ r. LandLeaves s i card work (r .image)) _ _ (λ k. refl) (both-num s card work (guard-num 10 _ (go! 0 0)))
+    through (λ (r : Changed). r .answer .number) (λ r. LandLeaves s i card work (r .image)) _ _ (λ k. refl) (both-num s card work (guard-num 10 _ ahead!))
     (λ j a e.
     let (f, q) = both-inv s card work _ e in
     land-done s card work i (both-sized s card work _ e) (fit-inv s work f) (ltb-true i (s .geo .s) (guard-inv 11 _ _ q .0)))
@@ -95,19 +96,19 @@ mount-changes card work =
 pub sync-changes : SyncChanges
 unfolding sync refused
 sync-changes s card work =
-    through (λ (r : Ended). r .answer .number) (λ r. SyncLeaves s card work r) _ _ (λ k. refl) (both-num s card work (guard-num 8 _ (go! 0 0)))
+    through (λ (r : Ended). r .answer .number) (λ r. SyncLeaves s card work r) _ _ (λ k. refl) (both-num s card work (guard-num 8 _ ahead!))
     (λ j a e. sync-done s card work (both-sized s card work _ e) (sync-live s card work e .0))
 
 pub unmount-changes : UnmountChanges
 unfolding unmount refused
 unmount-changes s card work =
-    through (λ (r : Ended). r .answer .number) (λ r. UnmountLeaves s card work r) _ _ (λ k. refl) (both-num s card work (go! 0 0))
+    through (λ (r : Ended). r .answer .number) (λ r. UnmountLeaves s card work r) _ _ (λ k. refl) (both-num s card work ahead!)
     (λ j a e. unmount-done s card work (both-sized s card work _ e) (fit-inv s work (both-inv s card work _ e .0)))
 
 -- ---- counts
 
 -- a call whose every end counts 0
-counts-none : {A : Type 0} (count : A → ℕ) (f : ℕ → A) (h : ℕ → ℕ → A) → ((k : ℕ) → count (f k) ≡ 0) → ((j a : ℕ) → count (h j a) ≡ 0) → (p : Plan) → count (ended p f h) ≡ 0
+counts-none : {A : Type 0} (count : A → ℕ) (f : ℕ → A) (h : ℕ → Sector → A) → ((k : ℕ) → count (f k) ≡ 0) → ((j : ℕ) (a : Sector) → count (h j a) ≡ 0) → (p : Plan) → count (ended p f h) ≡ 0
 unfolding ended
 counts-none count f h x y (refuse k) = x k
 counts-none count f h x y (doIt j a) = y j a
