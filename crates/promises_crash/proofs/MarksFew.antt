@@ -41,7 +41,7 @@ unfolding counted
 few-none = record { few = λ S. omega (arith, total-zero S); none = λ z. refl }
 
 -- a sector that one change hits
-hit-one : (s : Opened) (j a k i : ℕ) → bit (hitBy s j a k i) ≤ inRun (spotOf (s .geo) j .sector) 1 i + inRun a k i
+hit-one : (s : Opened) (j a k i : ℕ) → bit (hitBy s j (record { 0 = a }) k i) ≤ inRun (spotOf (s .geo) j .sector) 1 i + inRun a k i
 unfolding hitBy
 hit-one s j a k i = go (eqb i (spotOf (s .geo) j .sector)) refl
   where
@@ -53,16 +53,16 @@ or-bits : (a b : Bool) → bit (a || b) ≤ bit a + bit b
 or-bits true b = omega arith
 or-bits false b = omega arith
 
-few-more : (s : Opened) (work : List ℕ) (j a k c : ℕ) (M : Marks) → Few M c → (pages : ℕ → Bool) → Few (record { sectors = λ i. hitBy s j a k i || M .sectors i; pages = pages }) (k + 1 + c)
+few-more : (s : Opened) (work : List ℕ) (j a k c : ℕ) (M : Marks) → Few M c → (pages : ℕ → Bool) → Few (record { sectors = λ i. hitBy s j (record { 0 = a }) k i || M .sectors i; pages = pages }) (k + 1 + c)
 unfolding counted
 few-more s work j a k c M F pages = record { few = few; none = λ z. absurd (omega arith) }
   where
-    few : (S : ℕ) → total (λ i. bit (hitBy s j a k i || M .sectors i)) S ≤ k + 1 + c
+    few : (S : ℕ) → total (λ i. bit (hitBy s j (record { 0 = a }) k i || M .sectors i)) S ≤ k + 1 + c
     few S =
         let x = total-add (inRun (spotOf (s .geo) j .sector) 1) (inRun a k) (λ i. inRun (spotOf (s .geo) j .sector) 1 i + inRun a k i) S (λ i l. refl) in
         let y = total-add (λ i. inRun (spotOf (s .geo) j .sector) 1 i + inRun a k i) (λ i. bit (M .sectors i)) (λ i. inRun (spotOf (s .geo) j .sector) 1 i + inRun a k i + bit (M .sectors i)) S (λ i l. refl) in
-        let z = total-le (λ i. bit (hitBy s j a k i || M .sectors i)) (λ i. inRun (spotOf (s .geo) j .sector) 1 i + inRun a k i + bit (M .sectors i)) S
-        (λ i l. omega (arith, or-bits (hitBy s j a k i) (M .sectors i), hit-one s j a k i)) in
+        let z = total-le (λ i. bit (hitBy s j (record { 0 = a }) k i || M .sectors i)) (λ i. inRun (spotOf (s .geo) j .sector) 1 i + inRun a k i + bit (M .sectors i)) S
+        (λ i l. omega (arith, or-bits (hitBy s j (record { 0 = a }) k i) (M .sectors i), hit-one s j a k i)) in
         let f : total (λ i. bit (M .sectors i)) S ≤ c = (unfold counted in F .few S) in
         omega (arith, run-few (spotOf (s .geo) j .sector) 1 S, run-few a k S)
 

@@ -3,7 +3,7 @@ use mathlib.Core.Path.{_≡_, refl, sym, _∙_}
 use mathlib.Core.Bool.{Bool, true, false, _&&_, _||_}
 use mathlib.Core.List.{List, [], _∷_, List·Memᴰ, List·Memᴰ·not-nil}
 use mathlib.Core.Logic.{_⊎_, inl, inr}
-use Prim.Native.Nat.{ℕ, zero, suc, _+_, _*_, _/_, _≤_, _<_}
+use Prim.Native.Nat.{ℕ, zero, suc, _+_, _/_, _≤_, _<_}
 use native.Mathlib.Omega.{arith}
 use borrow.Author.Tests.{eqb-false, eq-eqb, le-leb, lt-ltb}
 use lib.Dec.{leb, ltb, eqb}
@@ -77,7 +77,7 @@ module _ (s : Opened) (j a k : ℕ) (v : Version) (card work n d : List ℕ) (p 
   newWork = editWork s j v work n d
 
   -- a sector that it does not hit
-  not-hit : (i : ℕ) → gDir g ≤ i → hitBy s j a k i ≡ false → sec newWork i ≡ sec work i
+  not-hit : (i : ℕ) → gDir g ≤ i → hitBy s j (record { 0 = a }) k i ≡ false → sec newWork i ≡ sec work i
   unfolding hitBy
   not-hit i lo z =
       let (x, y) = neither (eqb i (spotOf g j .sector)) (leb a i && ltb i (a + k)) z in
@@ -94,7 +94,7 @@ module _ (s : Opened) (j a k : ℕ) (v : Version) (card work n d : List ℕ) (p 
   unfolding runAt
   earlier = rw (present-live s (sec work) (R .live))
 
-  no-bit : (q : ℕ) → bitsIn s work j a k q ≡ false → ¬ ((0 < k) × (q ≡ a / 4096)) × ¬ ((0 < oldRun s j work .sectors) × (q ≡ oldRun s j work .start .0 / 4096))
+  no-bit : (q : ℕ) → bitsIn s work j (record { 0 = a }) k q ≡ false → ¬ ((0 < k) × (q ≡ a / 4096)) × ¬ ((0 < oldRun s j work .sectors) × (q ≡ oldRun s j work .start .0 / 4096))
   unfolding bitsIn
   no-bit q z = let (x, y) = neither _ _ (rw earlier at z) in (not-in a k q x, not-in (oldRun s j work .start .0) (oldRun s j work .sectors) q y)
 
@@ -119,20 +119,20 @@ module _ (s : Opened) (j a k : ℕ) (v : Version) (card work n d : List ℕ) (p 
       go (inr f) (inr g) = o x y f g
 
   pub touched-more : (M : Marks) → Unmarked s p M
-      → Unmarked s (allWritten newWork p) (record { sectors = λ i. hitBy s j a k i || M .sectors i; pages = λ q. bitsIn s work j a k q || M .pages q })
+      → Unmarked s (allWritten newWork p) (record { sectors = λ i. hitBy s j (record { 0 = a }) k i || M .sectors i; pages = λ q. bitsIn s work j (record { 0 = a }) k q || M .pages q })
   touched-more M T =
       record {
-        sector = λ i lo z. let (x, y) = neither (hitBy s j a k i) (M .sectors i) z in one-more i (not-hit i lo x) (T .sector i lo y);
+        sector = λ i lo z. let (x, y) = neither (hitBy s j (record { 0 = a }) k i) (M .sectors i) z in one-more i (not-hit i lo x) (T .sector i lo y);
         page = λ q l z.
-            let (x, y) = neither (bitsIn s work j a k q) (M .pages q) z in
+            let (x, y) = neither (bitsIn s work j (record { 0 = a }) k q) (M .pages q) z in
             let (u, w) = no-bit q x in
             let P = pair-kept s j a k v work n d (sec work) R q l u w in
             let (e, f) = T .page q l y in (one-more _ (P .first) e, one-more _ (P .second) f);
-        index = λ z. one-more (g .t + 1) (index-stays (λ q l. neither (bitsIn s work j a k q) (M .pages q) (z q l) .0))
-            (T .index (λ q l. neither (bitsIn s work j a k q) (M .pages q) (z q l) .1));
+        index = λ z. one-more (g .t + 1) (index-stays (λ q l. neither (bitsIn s work j (record { 0 = a }) k q) (M .pages q) (z q l) .0))
+            (T .index (λ q l. neither (bitsIn s work j (record { 0 = a }) k q) (M .pages q) (z q l) .1));
       }
     where
-      index-stays : ((q : ℕ) → q < gP g → bitsIn s work j a k q ≡ false) → sec newWork (g .t + 1) ≡ sec work (g .t + 1)
+      index-stays : ((q : ℕ) → q < gP g → bitsIn s work j (record { 0 = a }) k q ≡ false) → sec newWork (g .t + 1) ≡ sec work (g .t + 1)
       index-stays z =
           unfold indexIn in
           index-kept s j a k v work n d (sec work) R (none-of a k (R .fits) (λ q l. no-bit q (z q l) .0))

@@ -6,6 +6,7 @@ use Prim.Native.Nat.{ℕ, zero, suc, _+_, _/_, _≤_}
 use lib.Dec.{leb, ltb, eqb}
 use lib.ListN.{length}
 use Rattle.words_sums.specs.Sums.{bit, total}
+use Rattle.sectors.specs.declared.Sector.{Sector}
 use Rattle.sectors.specs.Sectors.{sec, applySteps, differs}
 use Rattle.counts.specs.declared.Geo.{Geo}
 use Rattle.counts.specs.Geometry.{gP}
@@ -113,20 +114,20 @@ abbrev pub noMarks : Marks
 noMarks = record { sectors = λ i. false; pages = λ q. false }
 
 -- the sectors that a change writes, index and pages aside: that of its entry, and the k sectors of its content from a on
-unfoldable pub hitBy : Opened → ℕ → ℕ → ℕ → ℕ → Bool
-hitBy s j a k i = eqb i (spotOf (s .geo) j .sector) || (leb a i && ltb i (a + k))
+unfoldable pub hitBy : Opened → ℕ → Sector → ℕ → ℕ → Bool
+hitBy s j a k i = eqb i (spotOf (s .geo) j .sector) || (leb (a .0) i && ltb i (a .0 + k))
 
 -- page q has k sectors from a on; no page has none
 unfoldable pub pageHas : ℕ → ℕ → ℕ → Bool
 pageHas a k q = ltb 0 k && eqb q (a / 4096)
 
 -- page q has a bit that the change makes another: one of its content, or of the earlier sectors
-unfoldable pub bitsIn : Opened → List ℕ → ℕ → ℕ → ℕ → ℕ → Bool
-bitsIn s work j a k q = let e = runAt (s .geo) (presentTable s (sec work)) work j in pageHas a k q || pageHas (e .start .0) (e .sectors) q
+unfoldable pub bitsIn : Opened → List ℕ → ℕ → Sector → ℕ → ℕ → Bool
+bitsIn s work j a k q = let e = runAt (s .geo) (presentTable s (sec work)) work j in pageHas (a .0) k q || pageHas (e .start .0) (e .sectors) q
 
 -- the marks m, and those of a change of k sectors where its plan goes through
 unfoldable pub marked : Opened → List ℕ → ℕ → Plan → Marks → Marks
-marked s work k p m = ended p (λ n. m) (λ j a. record { sectors = λ i. hitBy s j (a .0) k i || m .sectors i; pages = λ q. bitsIn s work j (a .0) k q || m .pages q })
+marked s work k p m = ended p (λ n. m) (λ j a. record { sectors = λ i. hitBy s j a k i || m .sectors i; pages = λ q. bitsIn s work j a k q || m .pages q })
 
 unfoldable pub putMarks : Session → List ℕ → List ℕ → List ℕ → ℕ → Marks → Marks
 putMarks Closed work n d goal m = m
