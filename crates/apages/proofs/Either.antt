@@ -1,7 +1,7 @@
 -- Two maps as one, set where either is: word by word, and the two figures of free by its ones. Assumes nothing.
 use mathlib.Core.Path.{_≡_, refl, sym, ap, _∙_}
 use mathlib.Core.List.{List, [], _∷_}
-use Prim.Native.Nat.{ℕ, zero, suc, _+_, _-_, _*_, _/_, _%_, _^_, max, _≤_, _<_}
+use Prim.Native.Nat.{ℕ, zero, suc, _+_, _-_, _*_, _/_, _%_, _^_, max, _<_}
 use native.Mathlib.Omega.{arith}
 use lib.Bits.{bitOr, or-zero-l, or-lt, or-block, or-shr, or-mod}
 use lib.ListN.{length, getD}

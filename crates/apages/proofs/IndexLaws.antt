@@ -1,7 +1,7 @@
 -- Laws of the index sector's bytes: what is written is read back. Assumes nothing.
 use mathlib.Core.Path.{_≡_, refl, sym, ap, _∙_}
 use mathlib.Core.List.{List, [], _++_, append-nil}
-use Prim.Native.Nat.{ℕ, _+_, _^_, _<_}
+use Prim.Native.Nat.{ℕ, _^_, _<_}
 use lib.ListN.{length, length-append}
 use Rattle.words.specs.Bytes.{wordAt, wordBytes}
 use Rattle.words.proofs.WordLaws.{wordBytes-length}

@@ -9,7 +9,7 @@ use Rattle.sectors.specs.Sectors.{sec}
 use Rattle.sectors.proofs.SectorLaws.{sec-part}
 use Rattle.counts.specs.declared.Geo.{Geo}
 use Rattle.counts.specs.Inner.{LaidOut}
-use Rattle.apages.specs.Index.{groupOf, indexIn, shownPage, pageIn}
+use Rattle.apages.specs.Index.{pageIn}
 use Rattle.apages.specs.Inner.{PairIn}
 use Rattle.apages.specs.Ones.{allSet}
 use Rattle.card.proofs.ViewLaws.{page-room}

@@ -14,7 +14,6 @@ use Rattle.session.specs.declared.Session.the-variants.{Open}
 use Rattle.session.specs.Views.{presentView, presentTable, presentFiles}
 use Rattle.session.specs.Fits.{fits}
 use Rattle.store.specs.Look.{listTests}
-use Rattle.store_listing.specs.declared.Listing.{Listing}
 use Rattle.store_listing.specs.Listings.{filesBy, noListing, viewListing, presentListing, listingIn, sessionListing}
 
 pub in-text : (g : Geo) (v : View) (img : List ℕ) (room : ℕ) → listingIn g v img room

@@ -1,7 +1,5 @@
 -- The bits of the run are those of its own page. Assumes nothing.
-use mathlib.Core.Path.{refl}
 use native.Mathlib.Omega.{arith}
-use Rattle.apages.specs.Ones.{allSet}
 use Rattle.card.proofs.ViewLaws.{page-room}
 use Rattle.card.proofs.TallyPages.{held-none, held-lent}
 use borrow.Author.Needs.{needs}
