@@ -13,15 +13,14 @@
 // 0, and a barrier, behind which everything written has landed. Sync's are sector 0, the S - T - 1 sectors past the table in rising order, a barrier, the
 // table sector, a barrier; a sector that does not differ is not written. Unmount's are sync's, and then sector 0. Past the last place nothing happens.
 ghost use mathlib.Core.Path.{_≡_};
-ghost use Rattle.card.specs.Plan.{goAhead};
 ghost use Rattle.card.specs.Make.{make};
 ghost use Rattle.card.specs.Reading.{read, readGet};
 ghost use Rattle.store.specs.Edit.{put, putAt, remove};
 ghost use Rattle.store.specs.Look.{get, free};
-ghost use Rattle.store.specs.Mount.{mountPlan, mount};
-ghost use Rattle.store.specs.Sync.{bothPlan, land, sync, unmount};
+ghost use Rattle.store.specs.Mount.{mount};
+ghost use Rattle.store.specs.Sync.{land, sync, unmount};
 ghost use Rattle.host_crossing.specs.Crossing.{geoWith, decoded, reported, roomed, IsMounted, IsKept, IsKeptNumber};
-ghost use Rattle.host_crossing.specs.FirstSteps.{planNumber, mountFirst, syncFirst, unmountFirst};
+ghost use Rattle.host_crossing.specs.FirstSteps.{mountFirst, syncFirst, unmountFirst};
 use card::Answer;
 use card::refusal;
 use card::success;
@@ -35,10 +34,13 @@ use host_crossing::give_room;
 use host_crossing::keep;
 use host_crossing::report_bytes;
 use sectors::Sector;
-use session::Opened;
 use session::Session;
+use session_unfit::sized;
+use session_unfit::sync_number;
+use session_unfit::unfit_on;
 use store_card::land;
 use store_card::mount;
+use store_card::mount_number;
 use store_card::sync;
 use store_card::unmount;
 use store_edit::put;
@@ -199,37 +201,6 @@ pub extern "C" fn store_land(session: &[u8; 24], card: &mut [u8], work: &[u8], s
 
 // ---- the first steps of a call
 
-// The number of mount's first test that fails, else 0.
-fn mount_number(card: &[u8], work: &[u8]) -> u32
-    ensures { λ r. ⌜ r ≡ planNumber (mountPlan (now (card .entry)) (now (work .entry))) ⌝ }
-{
-    if work.len() != card.len() {
-        return 1;
-    }
-    let shown = read(card);
-    if shown.number != 0 {
-        return shown.number;
-    }
-    if shown.n <= shown.c.0 {
-        return 3;
-    }
-    0
-}
-
-// The number of the first of tests 1 and 2 of sync and unmount that fails, else 0.
-fn both_number(s: Opened, card: &[u8], work: &[u8]) -> u32
-    ensures { λ r. ⌜ r ≡ planNumber (bothPlan s (now (card .entry)) (now (work .entry)) goAhead) ⌝ }
-{
-    if card.len() != 512 * (s.geo.s as usize) {
-        return 1;
-    }
-    let fit = session_fit::fits(s, work);
-    if !fit {
-        return 2;
-    }
-    0
-}
-
 // "mount 1, 2, 3", then its first k steps on the card; no session, and the working image is only measured.
 #[no_mangle]
 pub extern "C" fn store_mount_steps(card: &mut [u8], work: &[u8], k: u32) -> u32
@@ -255,15 +226,16 @@ pub extern "C" fn store_sync_steps(
 {
     let b = *session;
     let o = decoded(b);
+    let unfit = unfit_on(o, card, work);
+    if unfit {
+        return refusal(2);
+    }
     let Session::Open(s) = o else {
         return refusal(4);
     };
-    let n = both_number(s, card, work);
+    let n = sync_number(s, card);
     if n != 0 {
         return refusal(n);
-    }
-    if s.worn {
-        return refusal(9);
     }
     let written = sync_steps(s, card, work, k);
     success(written)
@@ -281,12 +253,16 @@ pub extern "C" fn store_unmount_steps(
 {
     let b = *session;
     let o = decoded(b);
+    let unfit = unfit_on(o, card, work);
+    if unfit {
+        return refusal(2);
+    }
     let Session::Open(s) = o else {
         return refusal(4);
     };
-    let n = both_number(s, card, work);
-    if n != 0 {
-        return refusal(n);
+    let right = sized(s, card);
+    if !right {
+        return refusal(1);
     }
     let written = unmount_steps(s, card, work, k);
     success(written)

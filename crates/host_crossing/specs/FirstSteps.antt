@@ -12,10 +12,6 @@ use Rattle.store.specs.Steps.{mountSteps, syncSteps, unmountSteps, syncedAt, do
 use Rattle.store.specs.Mount.{mountPlan}
 use Rattle.store.specs.Sync.{bothPlan}
 
--- the number of a plan: of the first test that fails, else 0
-unfoldable pub planNumber : Plan → ℕ
-planNumber p = ended p (λ k. k) (λ j a. 0)
-
 -- by a call's plan: its refusal and the card as lent, or the first n steps of a list, and w sectors counted
 unfoldable pub firstOf : Plan → List ℕ → ℕ → List Step → ℕ → Changed
 firstOf p card n steps w = ended p (λ k. record { answer = refused k; image = card }) (λ j a. record { answer = done w; image = applySteps (take n steps) card })

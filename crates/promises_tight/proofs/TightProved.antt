@@ -45,6 +45,7 @@ contracts =
     record {
       ofMake = λ κs a. (tt, λ x y s t p q. two p q);
       ofMount = λ κs a. (tt, λ x y s t p q. ended p q);
+      ofMountNumber = λ κs a. (tt, λ x y s t p q. one p q);
       ofPut = λ κs a. (tt, λ x y s t p q. two p q);
       ofPutAt = λ κs a. (tt, λ x y s t p q. two p q);
       ofRemove = λ κs a. (tt, λ x y s t p q. two p q);

@@ -12,6 +12,8 @@ use Rattle.card_fresh.proofs.make.Kinds as make·is
 use Rattle.card_fresh.proofs.make.Reads as make
 use Rattle.store_card.proofs.mount.Kinds as mount·is
 use Rattle.store_card.proofs.mount.Reads as mount
+use Rattle.store_card.proofs.mount_number.Kinds as mount_number·is
+use Rattle.store_card.proofs.mount_number.Reads as mount_number
 use Rattle.store_edit.proofs.put.Kinds as put·is
 use Rattle.store_edit.proofs.put.Reads as put
 use Rattle.store_edit.proofs.put_at.Kinds as put_at·is
@@ -81,6 +83,7 @@ module _ (n : ℕ) (ps : List (PK n)) (r : RK n) (Pre : In n ps) (Post : Out n p
 pub record Contracts : Type 0 where
   pub ofMake : Tight 1 make·is.ps make·is.r make.Pre make.Post (λ κs s. now (s .1 .0) ∷ [])
   pub ofMount : Tight 2 mount·is.ps mount·is.r mount.Pre mount.Post (λ κs s. now (s .0) ∷ now (s .1 .0) ∷ [])
+  pub ofMountNumber : Tight 2 mount_number·is.ps mount_number·is.r mount_number.Pre mount_number.Post (λ κs s. [])
   pub ofPut : Tight 3 put·is.ps put·is.r put.Pre put.Post (λ κs s. now (s .1 .0) ∷ [])
   pub ofPutAt : Tight 3 put_at·is.ps put_at·is.r put_at.Pre put_at.Post (λ κs s. now (s .1 .0) ∷ [])
   pub ofRemove : Tight 2 remove·is.ps remove·is.r remove.Pre remove.Post (λ κs s. now (s .1 .0) ∷ [])

@@ -1,11 +1,13 @@
 -- Mount and land, answer by answer: what each test of a call showed gives the call's equation. Assumes nothing.
-use mathlib.Core.Path.{_≡_, refl, ap, _∙_}
-use mathlib.Core.Bool.{Bool, true, false, _&&_}
+use mathlib.Core.Path.{_≡_, refl, sym, ap, _∙_}
+use mathlib.Core.Bool.{Bool, true, false, not, _&&_}
 use mathlib.Core.List.{List}
+use mathlib.Core.Logic.{_≢_}
 use Prim.Native.Nat.{ℕ, _*_, _≤_, _<_}
-use borrow.Author.Tests.{eq-eqb, ne-eqb, lt-ltb, le-ltb}
+use borrow.Author.Tests.{not-true, not-false, eq-eqb, ne-eqb, lt-ltb, le-ltb}
 use lib.Dec.{ltb, eqb}
 use lib.ListN.{length}
+use Rattle.words.proofs.BoolLaws.{both}
 use Rattle.sectors.specs.Sectors.{sec, setSec}
 use Rattle.counts.specs.Geometry.{gN, geoOf, countOf}
 use Rattle.card.specs.declared.Answer.{Answer}
@@ -17,9 +19,12 @@ use Rattle.session.specs.declared.Session.{Session}
 use Rattle.session.specs.declared.Session.the-variants.{Closed, Open}
 use Rattle.session.specs.Fits.{fits}
 use Rattle.store.specs.declared.Outcome.{Outcome}
-use Rattle.store.specs.Mount.{Ended, IsEnded, mountPlan, openedFrom, mountDone, mount}
+use Rattle.store.specs.Mount.{Ended, IsEnded, planNumber, mountPlan, openedFrom, mountDone, mount}
 use Rattle.store.specs.Sync.{bothPlan, land}
+use Rattle.store.specs.Inner.{CanMount}
 use Rattle.store.proofs.CallLaws.{Leaves, leaves}
+use Rattle.store.proofs.Plans.{number-stop, number-go, mount-num, mount-good, mount-few, mount-same}
+use Rattle.store.proofs.WriteLaws.{can-mount}
 
 pub ends : (e : Ended) {f : Ended} {r : Outcome} {x y : List ℕ} → e ≡ f → r .answer ≡ f .answer → r .session ≡ f .session → x ≡ f .card → y ≡ f .work → IsEnded r x y e
 ends e h p q u v = record { answer = rw h p; session = rw h q; card = rw h u; work = rw h v }
@@ -32,38 +37,53 @@ module _ (card work : List ℕ) where
   unfolding mount
   mount-by ep = ap (λ (p : Plan). ended {A = Ended} p (λ k. record { answer = refused k; session = Closed; card = card; work = work }) (λ j a. mountDone card)) ep
 
-  mount-stop : {k : ℕ} {r : Outcome} → mountPlan card work ≡ refuse k → (r .answer ≡ refused k) × (r .session ≡ Closed) → IsEnded r card work (mount card work)
-  unfolding ended
-  mount-stop ep f = ends _ (mount-by ep) (f .0) (f .1) refl refl
+  -- ---- its tests as one number
 
-  pub mount-shape : {r : Outcome} → shapeOk card ≡ false → (r .answer ≡ refused 1) × (r .session ≡ Closed) → IsEnded r card work (mount card work)
-  unfolding mountPlan
-  mount-shape z = mount-stop (guard-no 1 _ (ap (λ (b : Bool). b && eqb (length work) (length card)) z))
+  abbrev left : Bool
+  left = ltb (countOf (sec card)) (gN (geoOf (sec card)))
 
-  sized : shapeOk card ≡ true → {b : Bool} → eqb (length work) (length card) ≡ b → (shapeOk card && eqb (length work) (length card)) ≡ b
-  sized z l = ap (λ (b : Bool). b && eqb (length work) (length card)) z ∙ l
+  module _ {a : Bool} (e : a ≡ shapeOk card) where
+    pub mount-number-1 : not (a && eqb (length work) (length card)) ≡ true → 1 ≡ planNumber (mountPlan card work)
+    unfolding mountPlan planNumber ended
+    mount-number-1 h = let z = not-true (a && eqb (length work) (length card)) h in sym (ap planNumber (guard-no 1 _ (rw e at z)))
 
-  pub mount-size : {r : Outcome} → shapeOk card ≡ true → (length work ≡ length card → ⊥) → (r .answer ≡ refused 1) × (r .session ≡ Closed)
-      → IsEnded r card work (mount card work)
-  unfolding mountPlan
-  mount-size z d = mount-stop (guard-no 1 _ (sized z (ne-eqb _ _ d)))
+    module _ (h : not (a && eqb (length work) (length card)) ≡ false) where
+      sized : (shapeOk card && eqb (length work) (length card)) ≡ true
+      sized = let z = not-false (a && eqb (length work) (length card)) h in rw e at z
 
-  pub mount-2 : {r : Outcome} → shapeOk card ≡ true → length work ≡ length card → sound card ≡ false → (r .answer ≡ refused 2) × (r .session ≡ Closed)
-      → IsEnded r card work (mount card work)
-  unfolding mountPlan
-  mount-2 z d k = mount-stop (guard-yes 1 _ (sized z (eq-eqb _ _ d)) ∙ guard-no 2 _ k)
+      pub mount-shaped : shapeOk card ≡ true
+      mount-shaped = both (shapeOk card) _ sized .0
 
-  pub mount-3 : {r : Outcome} → shapeOk card ≡ true → length work ≡ length card → sound card ≡ true
-      → ltb (countOf (sec card)) (gN (geoOf (sec card))) ≡ false → (r .answer ≡ refused 3) × (r .session ≡ Closed) → IsEnded r card work (mount card work)
-  unfolding mountPlan
-  mount-3 z d k c = mount-stop (guard-yes 1 _ (sized z (eq-eqb _ _ d)) ∙ guard-yes 2 _ k ∙ guard-no 3 _ c)
+      pub mount-number-2 : sound card ≡ false → 2 ≡ planNumber (mountPlan card work)
+      unfolding mountPlan planNumber ended
+      mount-number-2 k = sym (ap planNumber (guard-yes 1 _ sized ∙ guard-no 2 _ k))
 
-  pub mount-done : {r : Outcome} {s : Opened} {x y : List ℕ} → shapeOk card ≡ true → length work ≡ length card → sound card ≡ true
-      → ltb (countOf (sec card)) (gN (geoOf (sec card))) ≡ true → r .answer ≡ done 0 → r .session ≡ Open s → s ≡ openedFrom card → x ≡ mountDone card .card → y ≡ mountDone card .work
-      → IsEnded r x y (mount card work)
-  unfolding mountPlan ended mountDone
-  mount-done z d k c f g h u v =
-      ends _ (mount-by (guard-yes 1 _ (sized z (eq-eqb _ _ d)) ∙ guard-yes 2 _ k ∙ guard-yes 3 _ c)) f (g ∙ ap Open h) u v
+      pub mount-number-3 : sound card ≡ true → left ≡ false → 3 ≡ planNumber (mountPlan card work)
+      unfolding mountPlan planNumber ended
+      mount-number-3 k c = sym (ap planNumber (guard-yes 1 _ sized ∙ guard-yes 2 _ k ∙ guard-no 3 _ c))
+
+      pub mount-number-0 : sound card ≡ true → left ≡ true → 0 ≡ planNumber (mountPlan card work)
+      unfolding mountPlan planNumber ended
+      mount-number-0 k c = sym (ap planNumber (guard-yes 1 _ sized ∙ guard-yes 2 _ k ∙ guard-yes 3 _ c))
+
+  -- ---- by that number
+
+  module _ {n : ℕ} (e : n ≡ planNumber (mountPlan card work)) where
+    pub mount-stop : {r : Outcome} → n ≢ 0 → (r .answer ≡ refused n) × (r .session ≡ Closed) → IsEnded r card work (mount card work)
+    unfolding ended
+    mount-stop h f = ends _ (mount-by (number-stop _ e h)) (f .0) (f .1) refl refl
+
+    -- what the steps ask
+    pub mount-can : n ≡ 0 → CanMount card × (length work ≡ length card)
+    mount-can z =
+        let (j, a, q) = number-go (mount-num card work) e z in
+        let (x, y) = mount-good card work j a q in
+        (can-mount card x y (mount-few card work j a q), mount-same card work j a q)
+
+    pub mount-done : {r : Outcome} {s : Opened} {x y : List ℕ} → n ≡ 0 → r .answer ≡ done 0 → r .session ≡ Open s → (s ≡ openedFrom card) × ((x ≡ mountDone card .card) × (y ≡ mountDone card .work))
+        → IsEnded r x y (mount card work)
+    unfolding ended mountDone
+    mount-done z f g h = let (j, a, q) = number-go (mount-num card work) e z in ends _ (mount-by q) f (g ∙ ap Open (h .0)) (h .1 .0) (h .1 .1)
 
 -- ---- the tests 1 and 2 of land, sync and unmount
 

@@ -1,10 +1,11 @@
--- The calls' plans: what one that goes through says of each test, and that a refusal's number is not 0. Assumes nothing.
-use mathlib.Core.Path.{_≡_, refl, ap}
+-- The calls' plans: what one that goes through says of each test, that a refusal's number is not 0, and what a plan's number says of it. Assumes nothing.
+use mathlib.Core.Path.{_≡_, refl, sym, ap}
 use mathlib.Core.Bool.{Bool, true, false, not}
 use mathlib.Core.List.{List}
+use mathlib.Core.Logic.{_≢_}
 use Prim.Native.Nat.{ℕ, _<_}
 use native.Mathlib.Omega.{arith}
-use borrow.Author.Tests.{not-true, ltb-true, lt-ltb}
+use borrow.Author.Tests.{not-true, eqb-true, ltb-true, lt-ltb}
 use lib.ListN.{length}
 use lib.Dec.{ltb}
 use Rattle.words.specs.declared.Found.the-variants.{At}
@@ -17,8 +18,8 @@ use Rattle.counts.proofs.GeoLaws.{limits}
 use Rattle.counts.specs.Geometry.{geoOk, gN, geoOf, countOf}
 use Rattle.entries.specs.Entries.{sectorsFor, goodName}
 use Rattle.directory.specs.Directory.{entriesOf, named}
-use Rattle.card.specs.Plan.{doIt, goAhead, Plan, guard, need}
-use Rattle.card.proofs.PlanLaws.{guard-inv, guard-yes, need-inv, Num, go!, ahead!, guard-num, need-num}
+use Rattle.card.specs.Plan.{refuse, doIt, goAhead, Plan, guard, need, ended}
+use Rattle.card.proofs.PlanLaws.{guard-inv, guard-yes, need-inv, Num, no!, go!, ahead!, guard-num, need-num}
 use Rattle.card.specs.Make.{makePlan}
 use Rattle.card.specs.Sound.{shapeOk, sound}
 use Rattle.session.specs.declared.Opened.{Opened}
@@ -26,8 +27,20 @@ use Rattle.session.specs.Views.{presentTable}
 use Rattle.session.specs.Fits.{fits}
 use Rattle.session.proofs.FitLaws.{Fit, fit-inv}
 use Rattle.store.specs.Edit.{placeIn, runIn, putPlan, removePlan}
-use Rattle.store.specs.Mount.{mountPlan}
+use Rattle.store.specs.Mount.{planNumber, mountPlan}
 use Rattle.store.specs.Sync.{bothPlan}
+
+-- ---- the number of a plan
+
+pub number-stop : (p : Plan) {n : ℕ} → n ≡ planNumber p → n ≢ 0 → p ≡ refuse n
+unfolding planNumber ended
+number-stop (refuse k) e h = ap refuse (sym e)
+number-stop (doIt j a) e h = absurd (h e)
+
+pub number-go : {p : Plan} {n : ℕ} → Num p → n ≡ planNumber p → n ≡ 0 → (j : ℕ) × (a : Sector) × (p ≡ doIt j a)
+unfolding planNumber ended
+number-go (no! k) e h = absurd (omega arith)
+number-go (go! j a) e h = (j, a, refl)
 
 -- ---- put and remove
 
@@ -114,6 +127,10 @@ unfolding mountPlan
 mount-good card work j a h =
     let (x, r) = guard-inv 1 _ _ h in
     (both (shapeOk card) _ x .0, guard-inv 2 _ _ r .0)
+
+pub mount-same : (card work : List ℕ) (j : ℕ) (a : Sector) → mountPlan card work ≡ doIt j a → length work ≡ length card
+unfolding mountPlan
+mount-same card work j a h = eqb-true _ _ (both (shapeOk card) _ (guard-inv 1 _ _ h .0) .1)
 
 -- ---- land, sync and unmount
 

@@ -1,21 +1,63 @@
 -- Sync and unmount, answer by answer. Assumes nothing.
-use mathlib.Core.Path.{_≡_, refl, ap, _∙_}
-use mathlib.Core.Bool.{true, false, not}
+use mathlib.Core.Path.{_≡_, refl, sym, ap, _∙_}
+use mathlib.Core.Bool.{Bool, true, false, not}
 use mathlib.Core.List.{List, []}
+use mathlib.Core.Logic.{_≢_}
 use Prim.Native.Nat.{ℕ, _*_}
+use borrow.Author.Tests.{eq-eqb, ne-eqb, eqb-true}
+use lib.Dec.{eqb}
 use lib.ListN.{length}
 use Rattle.sectors.specs.Sectors.{applySteps, writesIn}
 use Rattle.card.specs.Plan.{Plan, refuse, goAhead, guard, ended, refused, done}
-use Rattle.card.proofs.PlanLaws.{guard-no, guard-yes}
+use Rattle.card.proofs.PlanLaws.{ahead!, guard-no, guard-yes, guard-inv, guard-num}
 use Rattle.session.specs.declared.Opened.{Opened}
 use Rattle.session.specs.declared.Session.{Session}
 use Rattle.session.specs.declared.Session.the-variants.{Closed, Open}
 use Rattle.session.specs.Fits.{fits}
 use Rattle.store.specs.declared.Outcome.{Outcome}
 use Rattle.store.specs.Steps.{syncSteps, unmountSteps, unmountCount, syncWork, unmountWork, atTop}
-use Rattle.store.specs.Mount.{Ended, IsEnded}
+use Rattle.store.specs.Mount.{Ended, IsEnded, planNumber}
 use Rattle.store.specs.Sync.{bothPlan, grown, syncDone, sync, unmountDone, unmount}
+use Rattle.store.specs.Inner.{fittingPlan}
+use Rattle.store.proofs.Plans.{number-stop, number-go}
 use Rattle.store.proofs.CardLaws.{ends, both-1, both-2, both-ok}
+
+-- ---- sync's tests 1 and 9 as one number
+
+module _ (s : Opened) (card : List ℕ) where
+  pub sync-number-1 : (length card ≡ 512 * s .geo .s → ⊥) → 1 ≡ planNumber (fittingPlan s card)
+  unfolding fittingPlan planNumber ended
+  sync-number-1 d = sym (ap planNumber (guard-no 1 _ (ne-eqb _ _ d)))
+
+  pub sync-number-9 : length card ≡ 512 * s .geo .s → s .worn ≡ true → 9 ≡ planNumber (fittingPlan s card)
+  unfolding fittingPlan planNumber ended
+  sync-number-9 d w = sym (ap planNumber (guard-yes 1 _ (eq-eqb _ _ d) ∙ guard-no 9 _ (ap not w)))
+
+  pub sync-number-0 : length card ≡ 512 * s .geo .s → s .worn ≡ false → 0 ≡ planNumber (fittingPlan s card)
+  unfolding fittingPlan planNumber ended
+  sync-number-0 d w = sym (ap planNumber (guard-yes 1 _ (eq-eqb _ _ d) ∙ guard-yes 9 _ (ap not w)))
+
+  module _ {n : ℕ} (e : n ≡ planNumber (fittingPlan s card)) where
+    pub number-sized : n ≡ 0 → length card ≡ 512 * s .geo .s
+    unfolding fittingPlan
+    number-sized z = let (j, a, q) = number-go (guard-num 0 _ (guard-num 8 _ ahead!)) e z in eqb-true _ _ (guard-inv 1 _ _ q .0)
+
+    number-live : n ≡ 0 → not (s .worn) ≡ true
+    unfolding fittingPlan
+    number-live z = let (j, a, q) = number-go (guard-num 0 _ (guard-num 8 _ ahead!)) e z in guard-inv 9 _ _ (guard-inv 1 _ _ q .1) .0
+
+-- where the session fits, it is the number of all of sync's tests
+module _ (s : Opened) (card work : List ℕ) {n : ℕ} (e : n ≡ planNumber (fittingPlan s card)) (f : length card ≡ 512 * s .geo .s → fits s work ≡ true) where
+  pub number-stops : n ≢ 0 → bothPlan s card work (guard 9 (not (s .worn)) goAhead) ≡ refuse n
+  unfolding bothPlan fittingPlan
+  number-stops h = go (eqb (length card) (512 * s .geo .s)) refl ∙ number-stop (fittingPlan s card) e h
+    where
+      go : (b : Bool) → eqb (length card) (512 * s .geo .s) ≡ b → guard 1 b (guard 2 (fits s work) (guard 9 (not (s .worn)) goAhead)) ≡ guard 1 b (guard 9 (not (s .worn)) goAhead)
+      go true d = ap (guard 1 true) (guard-yes 2 _ (f (eqb-true _ _ d)))
+      go false d = unfold guard in refl
+
+  pub number-goes : n ≡ 0 → bothPlan s card work (guard 9 (not (s .worn)) goAhead) ≡ goAhead
+  number-goes z = let d = number-sized s card e z in both-ok s card work _ d (f d) ∙ guard-yes 9 _ (number-live s card e z)
 
 -- ---- sync
 
@@ -31,25 +73,17 @@ module _ (s : Opened) (card work : List ℕ) {o : Session} (eo : o ≡ Open s) w
       ap (λ (q : Session). sync q card work) eo
       ∙ ap (λ (p : Plan). ended {A = Ended} p (λ k. record { answer = refused k; session = Open s; card = card; work = work }) (λ j a. syncDone s card work)) ep
 
-  sync-stop : {k : ℕ} {r : Outcome} → bothPlan s card work (guard 9 (not (s .worn)) goAhead) ≡ refuse k → (r .answer ≡ refused k) × (r .session ≡ Open s) → IsEnded r card work (sync o card work)
+  pub sync-stop : {k : ℕ} {r : Outcome} → bothPlan s card work (guard 9 (not (s .worn)) goAhead) ≡ refuse k → (r .answer ≡ refused k) × (r .session ≡ Open s) → IsEnded r card work (sync o card work)
   unfolding ended
   sync-stop ep f = ends _ (sync-by ep) (f .0) (f .1) refl refl
-
-  pub sync-1 : {r : Outcome} → (length card ≡ 512 * s .geo .s → ⊥) → (r .answer ≡ refused 1) × (r .session ≡ Open s) → IsEnded r card work (sync o card work)
-  sync-1 d = sync-stop (both-1 s card work _ d)
 
   pub sync-2 : {r : Outcome} → length card ≡ 512 * s .geo .s → fits s work ≡ false → (r .answer ≡ refused 2) × (r .session ≡ Open s) → IsEnded r card work (sync o card work)
   sync-2 d z = sync-stop (both-2 s card work _ d z)
 
-  pub sync-9 : {r : Outcome} → length card ≡ 512 * s .geo .s → fits s work ≡ true → s .worn ≡ true → (r .answer ≡ refused 9) × (r .session ≡ Open s) → IsEnded r card work (sync o card work)
-  unfolding guard
-  sync-9 d z w = sync-stop (both-ok s card work _ d z ∙ guard-no 9 _ (ap not w))
-
-  pub sync-done : {r : Outcome} {n : Opened} {w : ℕ} {x y : List ℕ} → length card ≡ 512 * s .geo .s → fits s work ≡ true → s .worn ≡ false → r .answer ≡ done w → r .session ≡ Open n
+  pub sync-done : {r : Outcome} {n : Opened} {w : ℕ} {x y : List ℕ} → bothPlan s card work (guard 9 (not (s .worn)) goAhead) ≡ goAhead → r .answer ≡ done w → r .session ≡ Open n
       → (n ≡ grown (atTop s) s) × ((w ≡ writesIn (syncSteps s card work [])) × ((x ≡ applySteps (syncSteps s card work []) card) × (y ≡ syncWork s work))) → IsEnded r x y (sync o card work)
-  unfolding guard ended syncDone
-  sync-done d z w f g h =
-      ends _ (sync-by (both-ok s card work _ d z ∙ guard-yes 9 _ (ap not w))) (f ∙ ap done (h .1 .0)) (g ∙ ap Open (h .0)) (h .1 .1 .0) (h .1 .1 .1)
+  unfolding ended syncDone
+  sync-done ep f g h = ends _ (sync-by ep) (f ∙ ap done (h .1 .0)) (g ∙ ap Open (h .0)) (h .1 .1 .0) (h .1 .1 .1)
 
 -- ---- unmount
 

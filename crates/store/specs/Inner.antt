@@ -11,6 +11,7 @@ use Rattle.counts.specs.Inner.{LaidOut}
 use Rattle.counts.specs.Stamps.{maxTx}
 use Rattle.entries.specs.declared.Run.{Run}
 use Rattle.apages.specs.Inner.{PairIn}
+use Rattle.card.specs.Plan.{Plan, guard, goAhead}
 use Rattle.card.specs.Files.{runAt}
 use Rattle.session.specs.declared.Opened.{Opened}
 use Rattle.session.specs.Views.{presentTable}
@@ -62,6 +63,10 @@ FitOf (Open s) work = fits s work ≡ true
 abbrev pub FitOn : Session → List ℕ → List ℕ → Type 0
 FitOn Closed card work = Unit
 FitOn (Open s) card work = length card ≡ 512 * s .geo .s → fits s work ≡ true
+
+-- what is left of sync's tests in an open session that fits: "1, 9"
+unfoldable pub fittingPlan : Opened → List ℕ → Plan
+fittingPlan s card = guard 1 (eqb (length card) (512 * s .geo .s)) (guard 9 (not (s .worn)) goAhead)
 
 -- the test that the public calls make: "2: .. the session does not fit"
 unfoldable pub unfit : Session → List ℕ → Bool

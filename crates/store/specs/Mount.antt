@@ -30,6 +30,10 @@ pub record IsEnded (r : Outcome) (card′ work′ : List ℕ) (e : Ended) : Type
   pub card : card′ ≡ e .card
   pub work : work′ ≡ e .work
 
+-- the number of a plan: of the first test that fails, else 0
+unfoldable pub planNumber : Plan → ℕ
+planNumber p = ended p (λ k. k) (λ j a. 0)
+
 -- "mount 1, 2, 3"
 unfoldable pub mountPlan : List ℕ → List ℕ → Plan
 mountPlan card work =

@@ -9,7 +9,7 @@ ghost use Rattle.sectors.specs.Sectors.{sec};
 ghost use Rattle.counts.specs.Geometry.{gN, geoOf, countOf};
 ghost use Rattle.card.specs.Plan.{refused};
 ghost use Rattle.card.specs.Sound.{shapeOk};
-ghost use Rattle.store.specs.Mount.{IsEnded, mount};
+ghost use Rattle.store.specs.Mount.{IsEnded, planNumber, mountPlan, mount};
 ghost use Rattle.store.specs.Sync.{land, sync, unmount};
 ghost use Rattle.store.specs.Inner.{FitOn};
 use card::Answer;
@@ -20,6 +20,8 @@ use card_sound::sound;
 use sectors::Sector;
 use sectors::copy_sector;
 use session::Session;
+use session_unfit::sized;
+use session_unfit::sync_number;
 use session_unfit::unfit_on;
 use store::Outcome;
 use store_mounting::mount_in;
@@ -44,24 +46,33 @@ fn has_count(card: &[u8]) -> bool
     words::word_at(card, 0) < n
 }
 
+// The number of mount's first test that fails, else 0.
+pub fn mount_number(card: &[u8], work: &[u8]) -> u32
+    ensures { λ r. ⌜ r ≡ planNumber (mountPlan (now (card .entry)) (now (work .entry))) ⌝ }
+{
+    let shape = shape_ok(card);
+    let right = shape & (work.len() == card.len());
+    if !right {
+        return 1;
+    }
+    let good = sound(card);
+    if !good {
+        return 2;
+    }
+    let left = has_count(card);
+    if !left {
+        return 3;
+    }
+    0
+}
+
 // "mount 1, 2, 3"
 pub fn mount(card: &mut [u8], work: &mut [u8]) -> Outcome
     ensures { λ r. ⌜ IsEnded r (now (card .exit)) (now (work .exit)) (mount (now (card .entry)) (now (work .entry))) ⌝ }
 {
-    let shape = shape_ok(card);
-    if !shape {
-        return stays(Session::Closed, 1);
-    }
-    if work.len() != card.len() {
-        return stays(Session::Closed, 1);
-    }
-    let good = sound(card);
-    if !good {
-        return stays(Session::Closed, 2);
-    }
-    let left = has_count(card);
-    if !left {
-        return stays(Session::Closed, 3);
+    let n = mount_number(card, work);
+    if n != 0 {
+        return stays(Session::Closed, n);
     }
     let s = mount_in(card, work);
     let answer = success(0);
@@ -79,7 +90,8 @@ pub fn land_fitting(session: Session, card: &mut [u8], work: &[u8], i: Sector) -
     let Session::Open(s) = session else {
         return refusal(4);
     };
-    if card.len() != 512 * (s.geo.s as usize) {
+    let right = sized(s, card);
+    if !right {
         return refusal(1);
     }
     if s.geo.s <= i.0 {
@@ -108,11 +120,9 @@ pub fn sync_fitting(session: Session, card: &mut [u8], work: &mut [u8]) -> Outco
     let Session::Open(s) = session else {
         return stays(session, 4);
     };
-    if card.len() != 512 * (s.geo.s as usize) {
-        return stays(session, 1);
-    }
-    if s.worn {
-        return stays(session, 9);
+    let n = sync_number(s, card);
+    if n != 0 {
+        return stays(session, n);
     }
     let next = sync_in(s, card, work);
     let after = next.session;
@@ -142,7 +152,8 @@ pub fn unmount_fitting(session: Session, card: &mut [u8], work: &mut [u8]) -> Ou
     let Session::Open(s) = session else {
         return stays(session, 4);
     };
-    if card.len() != 512 * (s.geo.s as usize) {
+    let right = sized(s, card);
+    if !right {
         return stays(session, 1);
     }
     let written = unmount_in(s, card, work);

@@ -1,5 +1,6 @@
 -- Refused as mount is, or its first steps. Assumes nothing.
-use Rattle.host_crossing.proofs.FirstLaws.{mount-can, mount-first-stop, mount-first-done}
+use Rattle.store.proofs.CardLaws.{mount-can}
+use Rattle.host_crossing.proofs.FirstLaws.{mount-first-stop, mount-first-done}
 use borrow.Author.Needs.{needs}
 use Rattle.host.proofs.store_mount_steps.Statement.{statement}
 use Rattle.host.proofs.store_mount_steps.Tie as tie
@@ -14,7 +15,7 @@ returns : tie.Need-returns
 returns c = mount-first-stop _ _ (c .before .mount-number .ensures) _ (c .if1 .taken)
 
 mount-steps-requires : tie.Need-mount-steps-requires
-mount-steps-requires c κs = mount-can _ _ (c .before .before .mount-number .ensures) (c .before .if1 .left)
+mount-steps-requires c κs = mount-can _ _ (c .before .before .mount-number .ensures) (c .before .if1 .left) .0
 
 same-length-2 : tie.Need-same-length-2
 same-length-2 c = search needs

@@ -1,6 +1,8 @@
 -- Refused as sync is, or its steps at the first places. Assumes nothing.
+use Rattle.store.proofs.Fitting.{fit-on, open-fits-on}
+use Rattle.store.proofs.SyncCalls.{number-sized}
 use Rattle.store.proofs.WriteLaws.{can-sync}
-use Rattle.host_crossing.proofs.FirstLaws.{both-passed, sync-first-closed, sync-first-stop, sync-first-9, sync-first-done}
+use Rattle.host_crossing.proofs.FirstLaws.{sync-first-2, sync-first-closed, sync-first-stop, sync-first-done}
 use borrow.Author.Needs.{needs}
 use Rattle.host.proofs.store_sync_steps.Statement.{statement}
 use Rattle.host.proofs.store_sync_steps.Tie as tie
@@ -8,68 +10,76 @@ use Rattle.host.proofs.store_sync_steps.Tie as tie
 decoded-requires : tie.Need-decoded-requires
 decoded-requires c κs = search needs
 
+unfit-on-requires : tie.Need-unfit-on-requires
+unfit-on-requires c κs = search needs
+
+refusal-requires : tie.Need-refusal-requires
+refusal-requires c κs = search needs
+
+same-length : tie.Need-same-length
+same-length c = search needs
+
+returns : tie.Need-returns
+returns c = sync-first-2 _ _ _ _ (c .before .before .before .before .decoded .ensures) (c .before .before .unfit-on .ensures) (c .before .if1 .taken) (c .refusal .ensures)
+
 enum-known-o : tie.Need-enum-known-o
 enum-known-o c = search needs
 
 enum-told : tie.Need-enum-told
 enum-told c = search needs
 
-refusal-requires : tie.Need-refusal-requires
-refusal-requires c κs = search needs
-
-returns : tie.Need-returns
-returns c = sync-first-closed _ _ _ _ (c .before .enum-told .given .1) (c .before .before .before .decoded .ensures) (c .refusal .ensures)
-
-both-number-requires : tie.Need-both-number-requires
-both-number-requires c κs = search needs
-
 refusal-requires-2 : tie.Need-refusal-requires-2
 refusal-requires-2 c κs = search needs
-
-same-length : tie.Need-same-length
-same-length c = search needs
-
-returns-2 : tie.Need-returns-2
-returns-2 c = sync-first-stop _ _ _ (c .before .before .both-number .ensures) _ _ (c .before .before .before .before .before .o .given .1) (c .before .before .before .before .before .before .before .decoded .ensures) (c .before .if1 .taken) (c .refusal2 .ensures)
-
-refusal-requires-3 : tie.Need-refusal-requires-3
-refusal-requires-3 c κs = search needs
 
 same-length-2 : tie.Need-same-length-2
 same-length-2 c = search needs
 
-returns-3 : tie.Need-returns-3
-returns-3 c = sync-first-9 _ _ _ (c .before .before .before .both-number .ensures) _ _ (c .before .before .before .before .before .before .o .given .1) (c .before .before .before .before .before .before .before .before .decoded .ensures) (c .before .before .if1 .left) (c .before .if2 .taken) (c .refusal3 .ensures)
+returns-2 : tie.Need-returns-2
+returns-2 c = sync-first-closed _ _ _ _ (c .before .enum-told .given .1) (c .before .before .before .before .before .before .decoded .ensures) (c .refusal2 .ensures)
 
-sync-steps-requires : tie.Need-sync-steps-requires
-sync-steps-requires c κs = let (x, y) = both-passed _ _ _ (c .before .before .before .both-number .ensures) (c .before .before .if1 .left) in can-sync _ _ _ x y
+sync-number-requires : tie.Need-sync-number-requires
+sync-number-requires c κs = search needs
 
-success-requires : tie.Need-success-requires
-success-requires c κs = search needs
+refusal-requires-3 : tie.Need-refusal-requires-3
+refusal-requires-3 c κs = search needs
 
 same-length-3 : tie.Need-same-length-3
 same-length-3 c = search needs
 
+returns-3 : tie.Need-returns-3
+returns-3 c = sync-first-stop _ _ _ _ (c .before .before .before .before .before .before .before .before .before .before .decoded .ensures) (c .before .before .before .before .before .o .given .1) (c .before .before .before .before .before .before .before .before .unfit-on .ensures) (c .before .before .before .before .before .before .before .if1 .left) (c .before .before .sync-number .ensures) (c .before .if2 .taken) (c .refusal3 .ensures)
+
+sync-steps-requires : tie.Need-sync-steps-requires
+sync-steps-requires c κs = let d = number-sized _ _ (c .before .before .sync-number .ensures) (c .before .if2 .left) in can-sync _ _ _ d (open-fits-on _ _ (c .before .before .before .before .before .o .given .1) (fit-on _ _ _ (c .before .before .before .before .before .before .before .before .unfit-on .ensures) (c .before .before .before .before .before .before .before .if1 .left)) d)
+
+success-requires : tie.Need-success-requires
+success-requires c κs = search needs
+
+same-length-4 : tie.Need-same-length-4
+same-length-4 c = search needs
+
 returns-4 : tie.Need-returns-4
-returns-4 c = sync-first-done _ _ _ (c .before .before .before .before .before .before .before .both-number .ensures) _ _ (c .before .before .before .before .before .before .before .before .before .before .o .given .1) (c .before .before .before .before .before .before .before .before .before .before .before .before .decoded .ensures) (c .before .before .before .before .before .before .if1 .left) (c .before .before .before .before .before .if2 .left) (c .success .ensures) (c .before .before .before .sync-steps .ensures)
+returns-4 c = sync-first-done _ _ _ _ (c .before .before .before .before .before .before .before .before .before .before .before .before .before .before .decoded .ensures) (c .before .before .before .before .before .before .before .before .before .o .given .1) (c .before .before .before .before .before .before .before .before .before .before .before .before .unfit-on .ensures) (c .before .before .before .before .before .before .before .before .before .before .before .if1 .left) (c .before .before .before .before .before .before .sync-number .ensures) (c .before .before .before .before .before .if2 .left) (c .success .ensures) (c .before .before .before .sync-steps .ensures)
 
 pub store-sync-steps-spec : {M : Type 1} → statement M
 store-sync-steps-spec =
     tie.close
     (tie.spec
     decoded-requires
+    unfit-on-requires
+    refusal-requires
+    same-length
+    returns
     enum-known-o
     enum-told
-    refusal-requires
-    returns
-    both-number-requires
     refusal-requires-2
-    same-length
-    returns-2
-    refusal-requires-3
     same-length-2
+    returns-2
+    sync-number-requires
+    refusal-requires-3
+    same-length-3
     returns-3
     sync-steps-requires
     success-requires
-    same-length-3
+    same-length-4
     returns-4)

@@ -1,7 +1,9 @@
 -- Its tests in their order; the fit that it requires gives both lengths. Assumes nothing.
 use borrow.Author.Needs.{needs}
+use borrow.Author.Tests.{eqb-true, eqb-false}
 use native.Mathlib.Omega.{arith}
 use denote.Ref.{now}
+use Rattle.store.proofs.CallLaws.{passed, failed}
 use Rattle.store.proofs.Fitting.{open-fits-on}
 use Rattle.store.proofs.WriteLaws.{can-sync}
 use Rattle.store.proofs.CardLaws.{land-closed, land-1, land-11, land-done}
@@ -20,35 +22,55 @@ refusal-requires c κs = search needs
 returns : tie.Need-returns
 returns c = land-closed _ _ _ (c .before .enum-told .given .1) (c .refusal .ensures)
 
-cast-if1 : tie.Need-cast-if1
-cast-if1 c = search needs
-
-mul-if1 : tie.Need-mul-if1
-mul-if1 c = search needs
+sized-requires : tie.Need-sized-requires
+sized-requires c κs = search needs
 
 refusal-requires-2 : tie.Need-refusal-requires-2
 refusal-requires-2 c κs = search needs
 
+same-length : tie.Need-same-length
+same-length c = search needs
+
 returns-2 : tie.Need-returns-2
-returns-2 c = land-1 _ _ _ _ (c .before .before .before .before .session .given .1) (c .before .if1 .taken) (c .refusal2 .ensures)
+returns-2 c = land-1 _ _ _ _ (c .before .before .before .before .before .session .given .1) (eqb-false _ _ (failed (c .before .before .sized .ensures) (c .before .if1 .taken))) (c .refusal2 .ensures)
 
 refusal-requires-3 : tie.Need-refusal-requires-3
 refusal-requires-3 c κs = search needs
 
+same-length-2 : tie.Need-same-length-2
+same-length-2 c = search needs
+
 returns-3 : tie.Need-returns-3
-returns-3 c = land-11 _ _ _ _ (c .before .before .before .before .before .before .before .session .given .1) (c .before .before .before .before .if1 .left) (open-fits-on _ _ (c .before .before .before .before .before .before .before .session .given .1) (c .before .before .before .before .before .before .before .before .before .before .before .pre) (c .before .before .before .before .if1 .left)) (c .before .if2 .taken) (c .refusal3 .ensures)
+returns-3 c = let d = eqb-true _ _ (passed (c .before .before .before .before .before .sized .ensures) (c .before .before .before .before .if1 .left)) in land-11 _ _ _ _ (c .before .before .before .before .before .before .before .before .session .given .1) d (open-fits-on _ _ (c .before .before .before .before .before .before .before .before .session .given .1) (c .before .before .before .before .before .before .before .before .before .before .before .before .pre) d) (c .before .if2 .taken) (c .refusal3 .ensures)
 
 copy-sector-requires : tie.Need-copy-sector-requires
-copy-sector-requires c κs = let e = can-sync (c .before .before .before .before .before .before .before .session .given .0 .0) (now (c .before .before .before .before .before .before .before .before .before .before .before .args .card)) (now (c .before .before .before .before .before .before .before .before .before .before .before .args .work)) (c .before .before .before .before .if1 .left) (open-fits-on _ _ (c .before .before .before .before .before .before .before .session .given .1) (c .before .before .before .before .before .before .before .before .before .before .before .pre) (c .before .before .before .before .if1 .left)) in (omega (arith, e .cardSize, c .before .if2 .left), omega (arith, e .workSize, c .before .if2 .left))
+copy-sector-requires c κs = let d = eqb-true _ _ (passed (c .before .before .before .before .before .sized .ensures) (c .before .before .before .before .if1 .left)) in let e = can-sync (c .before .before .before .before .before .before .before .before .session .given .0 .0) (now (c .before .before .before .before .before .before .before .before .before .before .before .before .args .card)) (now (c .before .before .before .before .before .before .before .before .before .before .before .before .args .work)) d (open-fits-on _ _ (c .before .before .before .before .before .before .before .before .session .given .1) (c .before .before .before .before .before .before .before .before .before .before .before .before .pre) d) in (omega (arith, e .cardSize, c .before .if2 .left), omega (arith, e .workSize, c .before .if2 .left))
 
 success-requires : tie.Need-success-requires
 success-requires c κs = search needs
 
-same-length : tie.Need-same-length
-same-length c = search needs
+same-length-3 : tie.Need-same-length-3
+same-length-3 c = search needs
 
 returns-4 : tie.Need-returns-4
-returns-4 c = land-done _ _ _ _ (c .before .before .before .before .before .before .before .before .before .before .before .session .given .1) (c .before .before .before .before .before .before .before .before .if1 .left) (open-fits-on _ _ (c .before .before .before .before .before .before .before .before .before .before .before .session .given .1) (c .before .before .before .before .before .before .before .before .before .before .before .before .before .before .before .pre) (c .before .before .before .before .before .before .before .before .if1 .left)) (c .before .before .before .before .before .if2 .left) (c .success .ensures) (c .before .before .before .copy-sector .ensures)
+returns-4 c = let d = eqb-true _ _ (passed (c .before .before .before .before .before .before .before .before .before .sized .ensures) (c .before .before .before .before .before .before .before .before .if1 .left)) in land-done _ _ _ _ (c .before .before .before .before .before .before .before .before .before .before .before .before .session .given .1) d (open-fits-on _ _ (c .before .before .before .before .before .before .before .before .before .before .before .before .session .given .1) (c .before .before .before .before .before .before .before .before .before .before .before .before .before .before .before .before .pre) d) (c .before .before .before .before .before .if2 .left) (c .success .ensures) (c .before .before .before .copy-sector .ensures)
 
 pub land-fitting-spec : {M : Type 1} → statement M
-land-fitting-spec = tie.close (tie.spec enum-known-session enum-told refusal-requires returns cast-if1 mul-if1 refusal-requires-2 returns-2 refusal-requires-3 returns-3 copy-sector-requires success-requires same-length returns-4)
+land-fitting-spec =
+    tie.close
+    (tie.spec
+    enum-known-session
+    enum-told
+    refusal-requires
+    returns
+    sized-requires
+    refusal-requires-2
+    same-length
+    returns-2
+    refusal-requires-3
+    same-length-2
+    returns-3
+    copy-sector-requires
+    success-requires
+    same-length-3
+    returns-4)
