@@ -30,8 +30,8 @@ use Rattle.promises_crash.proofs.FewerProved.{as-before, counts}
 use Rattle.promises_crash.proofs.BoundProved.{bounds, closer}
 use Rattle.promises_answers.proofs.GoalsProved.{goals}
 use Rattle.promises_crash.proofs.FieldProved.{demand-three-field, since, fits-since}
-use Rattle.promises_crash.proofs.HostStops.{host-histories}
-use Rattle.promises_crash.proofs.HostFitsProved.{host-fits}
+use Rattle.promises_crash.proofs.Host.HostStops.{host-histories}
+use Rattle.promises_crash.proofs.Host.HostFitsProved.{host-fits}
 use Rattle.promises_crash.proofs.WorriesProved.{sync-at-top, worn-only-looks, no-count-above, counts-used-up}
 use Rattle.promises_crash.proofs.Wakes.{none-wakes}
 use Rattle.promises.specs.Promises.{Promises}

@@ -16,7 +16,7 @@ use Rattle.promises_answers.specs.PlainList.{Item}
 use Rattle.promises_crash.specs.History.{Pending}
 use Rattle.promises_answers.proofs.RefusalsProved.{refusals}
 use Rattle.promises_crash.proofs.Inv.{InvOf, mk}
-use Rattle.promises_crash.proofs.Steps.{to-live}
+use Rattle.promises_crash.proofs.Run.Steps.{to-live}
 use Rattle.promises_crash.proofs.Demand.{inv}
 use Rattle.promises_crash.specs.Fewer.{changes, pairsOf, Bounds, Marks, noMarks, marks, counted, someOf, closerOf, Closer}
 use Rattle.promises_crash.proofs.FewerProved.{counts, sync-not-worn}

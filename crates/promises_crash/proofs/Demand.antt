@@ -4,8 +4,8 @@ use lib.ListN.{length}
 use Rattle.card.proofs.MeansParts.{limits-mean}
 use Rattle.promises_crash.specs.History.{Left, World, Reach, fresh, call, cut, cutIn, Reads, Demand3}
 use Rattle.promises_crash.proofs.Inv.{Inv, inv-calm, inv-reads, inv-left}
-use Rattle.promises_crash.proofs.Steps.{inv-fresh}
-use Rattle.promises_crash.proofs.StepAll.{inv-step}
+use Rattle.promises_crash.proofs.Run.Steps.{inv-fresh}
+use Rattle.promises_crash.proofs.Run.StepAll.{inv-step}
 use Rattle.promises_crash.proofs.Within.{inv-within}
 
 -- every world of every history has the invariant

@@ -22,7 +22,7 @@ use Rattle.promises_answers.specs.PlainList.{Item}
 use Rattle.promises_crash.specs.History.{Pending}
 use Rattle.promises_crash.proofs.Play.{top-mem}
 use Rattle.promises_crash.proofs.State.{Live}
-use Rattle.promises_crash.proofs.Steps.{work-keeps}
+use Rattle.promises_crash.proofs.Run.Steps.{work-keeps}
 use Rattle.promises_crash.specs.Fewer.{differsAt, differing, Marks, counted, someOf}
 use Rattle.promises_crash.proofs.FewerProved.{at-low, at-past}
 use Rattle.promises_crash.proofs.Touched.{OneValue, Unmarked, neither}

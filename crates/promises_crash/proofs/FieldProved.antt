@@ -15,7 +15,7 @@ use Rattle.promises_answers.specs.PlainList.{Item, shownBy}
 use Rattle.promises_crash.specs.History.{World, afterCut, Reach, fresh, call, cut, cutIn, Reads, Demand3}
 use Rattle.promises_crash.proofs.State.{good-reads}
 use Rattle.promises_crash.proofs.Inv.{Inv, inv-calm, inv-reads, inv-left}
-use Rattle.promises_crash.proofs.StepAll.{inv-step}
+use Rattle.promises_crash.proofs.Run.StepAll.{inv-step}
 use Rattle.promises_crash.proofs.Within.{inv-within}
 use Rattle.promises_crash.proofs.Demand.{card-possible}
 use Rattle.promises_crash.proofs.Fit.FitHistory.{cut-closed, step}

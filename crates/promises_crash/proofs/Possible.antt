@@ -29,11 +29,11 @@ use Rattle.promises_answers.proofs.Synced.{sync-length}
 use Rattle.promises_crash.proofs.Play.{written-here, written-there}
 use Rattle.promises_crash.proofs.State.{AtRest}
 use Rattle.promises_crash.proofs.Inv.{OpenInv, InvOf, Inv, mk, inv-calm, inv-reads, inv-left}
-use Rattle.promises_crash.proofs.SyncEnd.{down-length}
-use Rattle.promises_crash.proofs.Steps.{to-live}
-use Rattle.promises_crash.proofs.StepAll.{own-geo, not-top}
+use Rattle.promises_crash.proofs.Run.SyncEnd.{down-length}
+use Rattle.promises_crash.proofs.Run.Steps.{to-live}
+use Rattle.promises_crash.proofs.Run.StepAll.{own-geo, not-top}
 use Rattle.promises_crash.proofs.Within.{steps-plan}
-use Rattle.promises_crash.proofs.CardRun.{Can, CanAll, top-can, can-nil, can-write, can-settle, sync-can}
+use Rattle.promises_crash.proofs.Run.CardRun.{Can, CanAll, top-can, can-nil, can-write, can-settle, sync-can}
 use Rattle.promises_crash.proofs.Demand.{inv}
 
 -- the card after each number of steps may be left by a cut there

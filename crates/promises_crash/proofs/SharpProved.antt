@@ -20,10 +20,10 @@ use Rattle.promises_crash.proofs.State.{calm-reads, Live}
 use Rattle.promises_crash.proofs.Inv.{mk}
 use Rattle.promises_crash.proofs.Demand.{inv}
 use Rattle.promises_crash.proofs.Fit.FitHistory.{always-fits}
-use Rattle.promises_crash.proofs.Steps.{to-live}
-use Rattle.promises_crash.proofs.StepAll.{not-top}
-use Rattle.promises_crash.proofs.SyncRun.{new-rests, sync-play}
-use Rattle.promises_crash.proofs.SyncEnd.{down-calm}
+use Rattle.promises_crash.proofs.Run.Steps.{to-live}
+use Rattle.promises_crash.proofs.Run.StepAll.{not-top}
+use Rattle.promises_crash.proofs.Run.SyncRun.{new-rests, sync-play}
+use Rattle.promises_crash.proofs.Run.SyncEnd.{down-calm}
 use Rattle.promises_crash.specs.Sharp.{UnmountSharp}
 
 -- a sync stands in front of what follows it

@@ -21,8 +21,8 @@ use Rattle.promises_answers.specs.PlainList.{Item, shownBy, shownIn}
 use Rattle.promises_crash.specs.History.{Pending, play, World, afterCut, byNumber, endOpen, before, syncsBy, unmountsBy, stepsOf, edited, stepped, Call, makeC, mountC, syncC, unmountC, putC, removeC, landC, getC, listC, freeC, after, Reach, fresh, call, cut, cutIn}
 use Rattle.promises_answers.proofs.Calls.{put-ready, remove-ready}
 use Rattle.promises_crash.proofs.Inv.{InvOf, Inv, mk}
-use Rattle.promises_crash.proofs.Steps.{to-live}
-use Rattle.promises_crash.proofs.SyncRun.{sync-play}
+use Rattle.promises_crash.proofs.Run.Steps.{to-live}
+use Rattle.promises_crash.proofs.Run.SyncRun.{sync-play}
 use Rattle.promises_crash.proofs.Demand.{inv}
 use Rattle.promises_crash.specs.Fewer.{Marks, noMarks, marked, putMarks, removeMarks, marksBy, marks}
 use Rattle.promises_crash.proofs.Touched.{OneValue, Touched, one-settled, one-newest, touched-none, touched-more}

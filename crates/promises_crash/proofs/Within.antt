@@ -24,11 +24,11 @@ use Rattle.promises_crash.specs.History.{Pending, play, settled, Left, W
 use Rattle.promises_crash.proofs.Play.{Every, every-nil, every-write}
 use Rattle.promises_crash.proofs.State.{reads-good, calm-reads, AtRest, good-rests}
 use Rattle.promises_crash.proofs.Inv.{OpenInv, InvOf, Inv, mk, inv-reads, inv-left}
-use Rattle.promises_crash.proofs.SyncRun.{Either, sync-every, new-reads}
-use Rattle.promises_crash.proofs.SyncEnd.{down-reads}
-use Rattle.promises_crash.proofs.MountRun.{mount-every}
-use Rattle.promises_crash.proofs.Steps.{to-live}
-use Rattle.promises_crash.proofs.StepAll.{own-geo, not-top}
+use Rattle.promises_crash.proofs.Run.SyncRun.{Either, sync-every, new-reads}
+use Rattle.promises_crash.proofs.Run.SyncEnd.{down-reads}
+use Rattle.promises_crash.proofs.Run.MountRun.{mount-every}
+use Rattle.promises_crash.proofs.Run.Steps.{to-live}
+use Rattle.promises_crash.proofs.Run.StepAll.{own-geo, not-top}
 
 -- a call that is refused takes no step
 pub steps-plan : {A : Type 0} (number : A → ℕ) (Q : List Step → Type 0) (stop : ℕ → A) (on : ℕ → Sector → A) (steps : List Step) {pl : Plan}

@@ -26,7 +26,7 @@ use Rattle.promises_answers.proofs.Numbers.NumbersProved.{numbers}
 use Rattle.promises_answers.proofs.RefusalsProved.{refusals}
 use Rattle.promises_crash.specs.History.{Pending, World, Call, makeC, mountC, syncC, unmountC, putC, removeC, landC, getC, listC, freeC, byNumber, stepped, after, Reads}
 use Rattle.promises_crash.proofs.Inv.{Worn, OpenInv, mk}
-use Rattle.promises_crash.proofs.Steps.{to-live}
+use Rattle.promises_crash.proofs.Run.Steps.{to-live}
 use Rattle.promises_crash.proofs.SteadyProved.{refused-same, land-shows}
 use Rattle.promises_crash.proofs.Leaves.LeavesProved.{sync-changes, unmount-changes}
 use Rattle.promises_crash.proofs.WholeProved.{looks-as, reads-as}

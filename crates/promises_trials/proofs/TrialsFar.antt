@@ -28,7 +28,7 @@ use Rattle.promises_crash.proofs.Inv.{mk}
 use Rattle.promises_crash.proofs.State.{Live}
 use Rattle.promises_crash.proofs.Demand.{inv}
 use Rattle.promises_answers.proofs.Synced.{sync-shows}
-use Rattle.promises_crash.proofs.SyncRun.{sync-card}
+use Rattle.promises_crash.proofs.Run.SyncRun.{sync-card}
 use Rattle.promises_answers.proofs.Fit.FitCalm.{rest-shows}
 use Rattle.promises_answers.proofs.Fit.FitAll.{sync-rest}
 use Rattle.promises_crash.proofs.Fit.FitHistory.{always-fits}

@@ -30,7 +30,7 @@ use Rattle.store.specs.Sync.{bothPlan, grown, sync, syncDone}
 use Rattle.promises_answers.specs.PlainList.{Item, items, shownBy, shownIn, lookup}
 use Rattle.promises_crash.specs.History.{play, settled, allWritten, Left, World, byNumber, stepped, edited, after, syncC, putC, syncsBy, stepsOf, Reach, call}
 use Rattle.promises_crash.proofs.Inv.{mk}
-use Rattle.promises_crash.proofs.SyncRun.{sync-play}
+use Rattle.promises_crash.proofs.Run.SyncRun.{sync-play}
 use Rattle.promises_crash.proofs.Demand.{demand-three}
 use Rattle.promises_trials.proofs.TrialsCard.{b, stretch, computes}
 use Rattle.promises_trials.proofs.TrialsRun.{good}

@@ -26,8 +26,8 @@ use Rattle.store.proofs.Plans.{put-num, remove-num, both-num, make-num, mount-f
 use Rattle.promises_answers.specs.PlainList.{Item, shownBy, shownIn}
 use Rattle.promises_crash.specs.History.{Pending, World, Call, makeC, mountC, syncC, unmountC, putC, removeC, landC, getC, listC, freeC, play, allWritten, settled, afterCut, byNumber, endOpen, before, stepsOf, syncsBy, unmountsBy, edited, stepped, after, Reach, fresh, call, cut, cutIn}
 use Rattle.promises_crash.proofs.Inv.{mk}
-use Rattle.promises_crash.proofs.Steps.{by-plan}
-use Rattle.promises_crash.proofs.StepAll.{not-top}
+use Rattle.promises_crash.proofs.Run.Steps.{by-plan}
+use Rattle.promises_crash.proofs.Run.StepAll.{not-top}
 use Rattle.promises_answers.proofs.Fit.FitCalm.{rest-fits, worn-fits}
 use Rattle.promises_answers.proofs.Fit.FitAll.{put-fits, remove-fits, sync-rest}
 use Rattle.promises_crash.proofs.Fit.FitMount.{mount-fits}

@@ -35,7 +35,7 @@ use Rattle.store.proofs.StepLaws.{up-length, up-geo, mount-bump}
 use Rattle.promises_answers.specs.PlainList.{items}
 use Rattle.promises_answers.proofs.Fit.FitCalm.{Rest, rest-fits}
 use Rattle.promises_crash.proofs.State.{good-rests}
-use Rattle.promises_crash.proofs.MountRun.{mount-card}
+use Rattle.promises_crash.proofs.Run.MountRun.{mount-card}
 
 -- the session at the card's own word C
 abbrev pub atWord : List ℕ → Opened

@@ -27,10 +27,10 @@ use Rattle.promises_answers.specs.PlainList.{Item, items, shownBy, shownIn}
 use Rattle.promises_crash.specs.History.{Pending, play, settled, World, afterCut, byNumber, endOpen, before, syncsBy, unmountsBy, stepsOf, stepped, Call, makeC, mountC, syncC, unmountC, putC, removeC, landC, getC, listC, freeC, after}
 use Rattle.promises_crash.proofs.State.{AtRest, Live}
 use Rattle.promises_crash.proofs.Inv.{Worn, OpenInv, InvOf, Inv, mk, inv-calm, inv-reads, inv-left}
-use Rattle.promises_crash.proofs.SyncRun.{sync-play, sync-card, new-rests}
-use Rattle.promises_crash.proofs.SyncEnd.{next-live, next-worn, down-rests, down-card}
-use Rattle.promises_crash.proofs.MountRun.{mount-lands, mount-card, mount-live}
-use Rattle.promises_crash.proofs.Steps.{by-plan, to-live, step-make, step-put, step-remove, step-land}
+use Rattle.promises_crash.proofs.Run.SyncRun.{sync-play, sync-card, new-rests}
+use Rattle.promises_crash.proofs.Run.SyncEnd.{next-live, next-worn, down-rests, down-card}
+use Rattle.promises_crash.proofs.Run.MountRun.{mount-lands, mount-card, mount-live}
+use Rattle.promises_crash.proofs.Run.Steps.{by-plan, to-live, step-make, step-put, step-remove, step-land}
 
 -- ---- mount: over an open session first a cut at which the card stays as it is
 

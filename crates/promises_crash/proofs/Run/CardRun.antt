@@ -22,7 +22,7 @@ use Rattle.promises_crash.specs.History.{Pending, written, newest, play,
 use Rattle.promises_answers.proofs.Synced.{sync-length, sync-other, inside}
 use Rattle.promises_crash.proofs.Play.{written-here, written-there, Top, top-written, landed, top-mem}
 use Rattle.promises_crash.proofs.State.{Live}
-use Rattle.promises_crash.proofs.SyncRun.{table-old, table-lands}
+use Rattle.promises_crash.proofs.Run.SyncRun.{table-old, table-lands}
 
 -- each sector of the card holds one of the values that it may hold
 pub record Can (S : ℕ) (p : Pending) (card : List ℕ) : Type 0 where

@@ -30,7 +30,7 @@ use Rattle.promises_answers.proofs.Synced.{sync-length, sync-count, sync-geo, s
 use Rattle.promises_crash.proofs.Play.{written-here, written-there, written-cases, mem-one, Top}
 use Rattle.promises_crash.proofs.State.{Good, Up, Calm, calm-reads, AtRest, Live}
 use Rattle.promises_crash.proofs.Inv.{Worn}
-use Rattle.promises_crash.proofs.SyncRun.{Either, new-rests}
+use Rattle.promises_crash.proofs.Run.SyncRun.{Either, new-rests}
 
 module _ (s : Opened) (card work : List ℕ) (p : Pending) (m : List Item) (V₀ : Live s card work p m) (F : Fit s work) (live : s .worn ≡ false) where
   abbrev g : Geo

@@ -25,7 +25,7 @@ use Rattle.host_crossing.specs.FirstSteps.{firstOf, mountFirst, syncFirst, unmo
 use Rattle.promises_crash.specs.History.{Pending, Left, World, Call, mountC, syncC, unmountC, afterCut, byNumber, endOpen, before, syncsBy, unmountsBy, stepsOf}
 use Rattle.promises_crash.proofs.Possible.{steps-possible}
 use Rattle.promises_crash.specs.HostRuns.{Held, AsCalls, Stops, HostHistories}
-use Rattle.promises_crash.proofs.HostRunsProved.{as-calls, kept-so}
+use Rattle.promises_crash.proofs.Host.HostRunsProved.{as-calls, kept-so}
 
 -- ---- by the plan: its first steps on the card are those of the call, none where it is refused
 

@@ -1,5 +1,5 @@
 -- What HostFits states, proved. Assumes nothing.
-use Rattle.promises_crash.proofs.HostRunsProved.{as-calls}
+use Rattle.promises_crash.proofs.Host.HostRunsProved.{as-calls}
 use Rattle.promises_crash.proofs.Fit.FitHistory.{always-fits}
 use Rattle.promises_crash.specs.HostFits.{HostFits}
 
