@@ -99,7 +99,7 @@ dead-means C tab x = (to, from (decLt (getD tab (x .cc .0) 0) (x .txc .0)))
 
 -- the words of a table of n words
 module _ (n : ℕ) (tab : List ℕ) (wide : length tab ≡ n) where
-  pub words-mean : (every wordMax tab ≡ true) ↔ ((i : ℕ) → i < n → getD tab i 0 ≤ 2147483647)
+  pub words-mean : (every wordMax tab ≡ true) ↔ ((i : ℕ) → i < n → getD tab i 0 ≤ maxTx)
   words-mean = (
     λ h i l. leb-true _ _ (every-at wordMax tab i 0 (omega (arith, wide)) h),
     λ h. every-all wordMax tab 0 (λ i l. le-leb _ _ (h i (omega (arith, wide)))),
@@ -118,7 +118,7 @@ module _ (n : ℕ) (tab : List ℕ) (wide : length tab ≡ n) where
 module _ (g : Geo) (C : ℕ) (tab : List ℕ) where
   -- "every table word is at most 2,147,483,647; words past C are 0; word C, if C < N, is at most 2,147,483,646"
   abbrev pub TableSays : Type 0
-  TableSays = ((i : ℕ) → i < gN g → getD tab i 0 ≤ 2147483647) × ((i : ℕ) → C < i → i < gN g → getD tab i 0 ≡ 0) × (C < gN g → getD tab C 0 ≤ 2147483646)
+  TableSays = ((i : ℕ) → i < gN g → getD tab i 0 ≤ maxTx) × ((i : ℕ) → C < i → i < gN g → getD tab i 0 ≡ 0) × (C < gN g → getD tab C 0 ≤ 2147483646)
 
   pub table-means : length tab ≡ gN g → (tableOk g C tab ≡ true) ↔ TableSays
   unfolding tableOk

@@ -10,7 +10,7 @@ use Rattle.sectors.specs.Sectors.{sec}
 use Rattle.counts.specs.declared.Geo.{Geo}
 use Rattle.counts.specs.declared.Stamp.{Stamp}
 use Rattle.counts.specs.Geometry.{gN, gP, gF, geoOf, countOf, tableOf, pairLow, pairHigh}
-use Rattle.counts.specs.Stamps.{stampOf}
+use Rattle.counts.specs.Stamps.{maxTx, stampOf}
 use Rattle.entries.specs.declared.Version.the-variants.{Absent}
 use Rattle.entries.specs.Entries.{nameBytes, nameOf, shownBytes, shown, entryRest, Piece, piecesOf}
 use Rattle.directory.specs.Directory.{entriesOf}
@@ -61,7 +61,7 @@ Alive tab x = x .txc .0 ≤ getD tab (x .cc .0) 0
 
 -- "every cc is below N, every txc at most 2,147,483,647"
 abbrev pub Ranged : Geo → Stamp → Type 0
-Ranged g x = (x .cc .0 < gN g) × (x .txc .0 ≤ 2147483647)
+Ranged g x = (x .cc .0 < gN g) × (x .txc .0 ≤ maxTx)
 
 -- "a dead stamp has cc below C"
 abbrev pub DeadBelow : ℕ → List ℕ → Stamp → Type 0
@@ -179,7 +179,7 @@ tab img = tableOf (geoOf (sec img)) (sec img)
 pub record Sound (img : List ℕ) : Type 0 where
   -- "C is at most N; every table word is at most 2,147,483,647; words past C are 0; word C, if C < N, is at most 2,147,483,646"
   pub count : C img ≤ N img
-  pub words : (i : ℕ) → i < N img → word img i ≤ 2147483647
+  pub words : (i : ℕ) → i < N img → word img i ≤ maxTx
   pub past : (i : ℕ) → C img < i → i < N img → word img i ≡ 0
   pub wordC : C img < N img → word img (C img) ≤ 2147483646
   -- "every cc is below N, every txc at most 2,147,483,647, and a dead stamp has cc below C"

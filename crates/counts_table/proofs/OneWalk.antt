@@ -9,7 +9,7 @@ use borrow.Author.Tests.{eqb-true, le-leb}
 use lib.ListN.{length, drop, drop-of-length-le}
 use Rattle.words.specs.Lists.{every, isZero}
 use Rattle.words.proofs.BoolLaws.{both, join}
-use Rattle.counts.specs.Stamps.{wordMax}
+use Rattle.counts.specs.Stamps.{maxTx, wordMax}
 use Rattle.counts_table.specs.Inner.{Judged}
 
 zero-max : (l : List ℕ) → every isZero l ≡ true → every wordMax l ≡ true
@@ -17,7 +17,7 @@ unfolding every
 zero-max [] h = refl
 zero-max (x ∷ l) h =
     let (a, b) = both (isZero x) (every isZero l) h in
-    join _ _ (le-leb x 2147483647 (omega (arith, eqb-true x 0 a))) (zero-max l b)
+    join _ _ (le-leb x maxTx (omega (arith, eqb-true x 0 a))) (zero-max l b)
 
 -- the end of the walk
 pub walk-end : (tab : List ℕ) (n c i r : ℕ) (ok past : Bool) → length tab ≤ n → past ≡ every isZero (drop (c + 1) tab) → Judged n c past r → i ≡ r → every wordMax tab ≡ (ok && every wordMax (drop i tab)) → ok ≡ every wordMax tab

@@ -13,6 +13,7 @@ use Rattle.counts.specs.declared.Geo.{Geo}
 use Rattle.counts.specs.declared.Stamp.{Stamp}
 use Rattle.counts.specs.Geometry.{gN, geoOf, countOf, tableOf}
 use Rattle.counts.proofs.GeoLaws.{table-same}
+use Rattle.counts.specs.Stamps.{maxTx}
 use Rattle.card.specs.Plan.{refused}
 use Rattle.card.proofs.PlanLaws.{ahead!, guard-num}
 use Rattle.card.proofs.MeansParts.{limits-mean}
@@ -146,9 +147,9 @@ module _ (s : Opened) (card work : List ℕ) (z : sync (Open s) card work .answe
 
   lives-after : (x : Stamp) → (x .cc .0 ≡ s .c .0 → x .txc .0 ≤ s .t .0) → LivesOn P (sync (Open s) card work .session) synced x
   unfolding cutTable
-  lives-after x m = go (ℕ-discrete (s .t .0) 2147483647)
+  lives-after x m = go (ℕ-discrete (s .t .0) maxTx)
     where
-      go : Dec (s .t .0 ≡ 2147483647) → LivesOn P (sync (Open s) card work .session) synced x
+      go : Dec (s .t .0 ≡ maxTx) → LivesOn P (sync (Open s) card work .session) synced x
       go (yes e) =
           subst (λ (o : Session). LivesOn P o synced x) (sym (L₁ .wears e))
           (rw (present-worn last (sec synced) refl (ap length new-table ∙ long), new-table) (λ q. q, λ q. q), rw new-table (λ q. q, λ q. q))

@@ -9,6 +9,7 @@ use lib.ListN.{length}
 use Rattle.words.proofs.BoolLaws.{never, falsum}
 use Rattle.sectors.specs.Sectors.{sec}
 use Rattle.counts.specs.Geometry.{geoOf}
+use Rattle.counts.specs.Stamps.{maxTx}
 use Rattle.card.specs.Plan.{refused}
 use Rattle.session.specs.declared.Opened.{Opened}
 use Rattle.session.specs.declared.Session.{Session}
@@ -43,7 +44,7 @@ module _ (s : Opened) (card work : List ℕ) (p : Pending) (m : List Item) (r : 
   fit : Fits s work
   fit = fits-mean s work .0 (fits-since r)
 
-  lands-and-wears : s .worn ≡ false → s .t .0 ≡ 2147483647 → LandsAndWears W s
+  lands-and-wears : s .worn ≡ false → s .t .0 ≡ maxTx → LandsAndWears W s
   lands-and-wears live top =
       record {
         number = done;

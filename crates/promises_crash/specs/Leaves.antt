@@ -11,6 +11,7 @@ use Rattle.words.specs.Bytes.{wordBytes}
 use Rattle.sectors.specs.Sectors.{sec}
 use Rattle.counts.specs.declared.Geo.{Geo}
 use Rattle.counts.specs.Geometry.{geoOf, countOf, tableOf}
+use Rattle.counts.specs.Stamps.{maxTx}
 use Rattle.card.specs.Make.{make}
 use Rattle.session.specs.declared.Opened.{Opened}
 use Rattle.session.specs.declared.Session.{Session}
@@ -78,9 +79,9 @@ pub record BothSynced (s : Opened) (card work head card′ work′ : List ℕ) :
 pub record SyncLeaves (s : Opened) (card work : List ℕ) (r : Ended) : Type 0 where
   pub images : BothSynced s card work (sec work 0) (r .card) (r .work)
   -- "Then t grows by 1."
-  pub grows : s .t .0 < 2147483647 → r .session ≡ Open (record { geo = s .geo; c = s .c; t = record { 0 = s .t .0 + 1 }; worn = false })
+  pub grows : s .t .0 < maxTx → r .session ≡ Open (record { geo = s .geo; c = s .c; t = record { 0 = s .t .0 + 1 }; worn = false })
   -- "At t = 2,147,483,647 it lands too, t stays, and the session is worn"
-  pub wears : s .t .0 ≡ 2147483647 → r .session ≡ Open (record { geo = s .geo; c = s .c; t = s .t; worn = true })
+  pub wears : s .t .0 ≡ maxTx → r .session ≡ Open (record { geo = s .geo; c = s .c; t = s .t; worn = true })
 
 -- ---- unmount
 
@@ -88,11 +89,11 @@ pub record UnmountLeaves (s : Opened) (card work : List ℕ) (r : Ended) : Type 
   -- "The session is closed"
   pub closed : r .session ≡ Closed
   -- "syncs unless worn, then writes C = c to sector 0 of both images"
-  pub down : s .worn ≡ false → s .t .0 < 2147483647 → BothSynced s card work (withCount (s .c .0) (sec work 0)) (r .card) (r .work)
-  pub countDown : s .worn ≡ false → s .t .0 < 2147483647 → (countOf (sec (r .card)) ≡ s .c .0) × (countOf (sec (r .work)) ≡ s .c .0)
+  pub down : s .worn ≡ false → s .t .0 < maxTx → BothSynced s card work (withCount (s .c .0) (sec work 0)) (r .card) (r .work)
+  pub countDown : s .worn ≡ false → s .t .0 < maxTx → (countOf (sec (r .card)) ≡ s .c .0) × (countOf (sec (r .work)) ≡ s .c .0)
   -- "a session that .. becomes so in this sync, leaves c + 1 there"
-  pub wears : s .worn ≡ false → s .t .0 ≡ 2147483647 → BothSynced s card work (sec work 0) (r .card) (r .work)
-  pub countUp : s .worn ≡ false → s .t .0 ≡ 2147483647 → (countOf (sec (r .card)) ≡ s .c .0 + 1) × (countOf (sec (r .work)) ≡ s .c .0 + 1)
+  pub wears : s .worn ≡ false → s .t .0 ≡ maxTx → BothSynced s card work (sec work 0) (r .card) (r .work)
+  pub countUp : s .worn ≡ false → s .t .0 ≡ maxTx → (countOf (sec (r .card)) ≡ s .c .0 + 1) × (countOf (sec (r .work)) ≡ s .c .0 + 1)
   -- "a session that is worn": nothing is written
   pub worn : s .worn ≡ true → (r .card ≡ card) × (r .work ≡ work) × (countOf (sec (r .work)) ≡ s .c .0 + 1)
 

@@ -10,6 +10,7 @@ use Rattle.sectors.specs.Sectors.{sec}
 use Rattle.counts.specs.declared.Geo.{Geo}
 use Rattle.counts.specs.declared.Stamp.{Stamp}
 use Rattle.counts.specs.Geometry.{gN, geoOf, countOf, tableOf}
+use Rattle.counts.specs.Stamps.{maxTx}
 use Rattle.card.specs.Plan.{refused}
 use Rattle.card.specs.Means.{EachStamp, Alive, Sound}
 use Rattle.session.specs.declared.Opened.{Opened}
@@ -35,7 +36,7 @@ pub record LandsAndWears (w : World) (s : Opened) : Type 0 where
   pub wears : after syncC w .session ≡ Open (record { geo = s .geo; c = s .c; t = s .t; worn = true })
 
 abbrev pub SyncAtTop : Type 0
-SyncAtTop = (w : World) → Since w → (s : Opened) → w .session ≡ Open s → s .worn ≡ false → s .t .0 ≡ 2147483647 → LandsAndWears w s
+SyncAtTop = (w : World) → Since w → (s : Opened) → w .session ≡ Open s → s .worn ≡ false → s .t .0 ≡ maxTx → LandsAndWears w s
 
 -- make, mount and unmount end a session; no other call does
 unfoldable pub ends : Call → Bool
@@ -72,13 +73,13 @@ WornOnlyLooks = (w : World) → Since w → (s : Opened) → w .session ≡ Open
 
 -- of an image: the words of its table, and the transaction counts of its stamps
 pub record NoneAbove (g : Geo) (img : List ℕ) : Type 0 where
-  pub words : (i : ℕ) → i < gN g → getD (tableOf g (sec img)) i 0 ≤ 2147483647
-  pub stamps : EachStamp g img (λ x. x .txc .0 ≤ 2147483647)
+  pub words : (i : ℕ) → i < gN g → getD (tableOf g (sec img)) i 0 ≤ maxTx
+  pub stamps : EachStamp g img (λ x. x .txc .0 ≤ maxTx)
 
 -- of an open session: its own t, and its working image
 abbrev pub NoneAboveIn : Session → List ℕ → Type 0
 NoneAboveIn Closed work = Unit
-NoneAboveIn (Open s) work = (s .t .0 ≤ 2147483647) × NoneAbove (s .geo) work
+NoneAboveIn (Open s) work = (s .t .0 ≤ maxTx) × NoneAbove (s .geo) work
 
 -- of the card as the calls have left it, of what any cut leaves, between calls and inside one, and of the session
 pub record CountsHold (w : World) : Type 0 where

@@ -77,7 +77,7 @@ head-here s work l en eh ez =
     let z : drop 16 (sec work 0) ≡ take 496 (drop 16 work) = (unfold sec part in drop-take 16 496 work) in
     rw (w, z, en, eh, ez)
 
-pub word-worn : (w : Bool) (t x : ℕ) → w ≡ true → (eqb t 2147483647 && eqb x 2147483647) ≡ wordOk w t x
+pub word-worn : (w : Bool) (t x : ℕ) → w ≡ true → (eqb t maxTx && eqb x maxTx) ≡ wordOk w t x
 unfolding wordOk
 word-worn w t x e = rw e
 

@@ -7,7 +7,7 @@ use Prim.Native.Nat.{ℕ, _+_, _*_, _≤_, _<_}
 use lib.ListN.{length, getD}
 use Rattle.sectors.specs.Sectors.{sec}
 use Rattle.counts.specs.Geometry.{gN, geoOf, countOf, tableOf}
-use Rattle.counts.specs.Stamps.{tableIn}
+use Rattle.counts.specs.Stamps.{maxTx, tableIn}
 use Rattle.card.specs.Means.{InLimits, EachStamp, DeadBelow, NoTwoAlike, ZerosFrom, ShowsFile, View}
 use Rattle.session.specs.declared.Opened.{Opened}
 use Rattle.session.specs.Views.{presentTable, cutView}
@@ -29,7 +29,7 @@ pub record Fits (s : Opened) (work : List ℕ) : Type 0 where
   pub limits : InLimits (s .geo)
   pub c : s .c .0 < gN (s .geo)
   pub tLeast : 1 ≤ s .t .0
-  pub tMost : s .t .0 ≤ 2147483647
+  pub tMost : s .t .0 ≤ maxTx
   -- "lengths and sector 0 agree (count c + 1)"; its rest is 0
   pub sized : length work ≡ 512 * s .geo .s
   pub count : countOf (sec work) ≡ s .c .0 + 1
@@ -37,9 +37,9 @@ pub record Fits (s : Opened) (work : List ℕ) : Type 0 where
   pub headRest : ZerosFrom 16 (sec work 0)
   -- "table word c is t − 1 (worn: t and the word are 2,147,483,647)"
   pub wordC : s .worn ≡ false → word s work (s .c .0) + 1 ≡ s .t .0
-  pub wornC : s .worn ≡ true → (s .t .0 ≡ 2147483647) × (word s work (s .c .0) ≡ 2147483647)
+  pub wornC : s .worn ≡ true → (s .t .0 ≡ maxTx) × (word s work (s .c .0) ≡ maxTx)
   -- "every table word is at most 2,147,483,647, words past c are 0"
-  pub words : (i : ℕ) → i < gN (s .geo) → word s work i ≤ 2147483647
+  pub words : (i : ℕ) → i < gN (s .geo) → word s work i ≤ maxTx
   pub past : (i : ℕ) → s .c .0 < i → i < gN (s .geo) → word s work i ≡ 0
   -- "each view passes the entry, index and bitmap rules"
   pub present : View (s .geo) (presentTable s (sec work)) work

@@ -30,13 +30,13 @@ unfolding sound
 can-mount card h k l =
     let (g, m) = shape-inv card h in
     let S = sound-inv (geoOf (sec card)) (sec card) k in
-    record { laid = ok-laid (geoOf (sec card)) card g m; count = unfold gN in l; word = table-inv _ _ _ (S .tab) .word l }
+    record { laid = ok-laid (geoOf (sec card)) card g m; count = l; word = table-inv _ _ _ (S .tab) .word l }
 
 pub can-sync : (s : Opened) (card work : List ℕ) → length card ≡ 512 * s .geo .s → fits s work ≡ true → CanSync s card work
 can-sync s card work l h =
     let F = fit-inv s work h in
     let L = limits (s .geo) (F .shape) in
-    record { room = omega (arith, L .past, L .dir, L .sLow); top = L .sHigh; table = L .tHigh; count = unfold gN in F .count; tx = F .tx; cardSize = l; workSize = F .sized }
+    record { room = omega (arith, L .past, L .dir, L .sLow); top = L .sHigh; table = L .tHigh; count = F .count; tx = F .tx; cardSize = l; workSize = F .sized }
 
 -- a card of the same length serves as well
 pub can-still : (s : Opened) {card work : List ℕ} (next : List ℕ) → CanSync s card work → length next ≡ length card → CanSync s next work

@@ -6,7 +6,7 @@ use Prim.Native.Nat.{ℕ, _+_, _*_, _%_, _≤_, _<_}
 use lib.ListN.{length, getD}
 use lib.Dec.{eqb}
 use Rattle.sectors.specs.Sectors.{sec, leanWrites}
-use Rattle.counts.specs.Geometry.{gP, gF, geoOf, countOf, tableOf}
+use Rattle.counts.specs.Geometry.{gN, gP, gF, geoOf, countOf, tableOf}
 use Rattle.counts.specs.Inner.{LaidOut}
 use Rattle.counts.specs.Stamps.{maxTx}
 use Rattle.entries.specs.declared.Run.{Run}
@@ -37,14 +37,14 @@ pub record CanEdit (s : Opened) (work : List ℕ) (j : ℕ) (r : Run) (n d : Lis
 -- what the calls ask
 pub record CanMount (card : List ℕ) : Type 0 where
   pub laid : LaidOut (geoOf (sec card)) card
-  pub count : countOf (sec card) < 128 * geoOf (sec card) .t
+  pub count : countOf (sec card) < gN (geoOf (sec card))
   pub word : getD (tableOf (geoOf (sec card)) (sec card)) (countOf (sec card)) 0 < maxTx
 
 pub record CanSync (s : Opened) (card work : List ℕ) : Type 0 where
   pub room : s .geo .t < s .geo .s
   pub top : s .geo .s ≤ 65536
   pub table : s .geo .t ≤ 512
-  pub count : s .c .0 < 128 * s .geo .t
+  pub count : s .c .0 < gN (s .geo)
   pub tx : s .t .0 ≤ maxTx
   pub cardSize : length card ≡ 512 * s .geo .s
   pub workSize : length work ≡ 512 * s .geo .s

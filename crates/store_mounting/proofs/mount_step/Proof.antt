@@ -1,6 +1,7 @@
 -- The one write, or nothing. Assumes nothing.
 use native.Mathlib.Omega.{arith}
 use denote.Ref.{now}
+use Rattle.counts.specs.Geometry.{gN}
 use Rattle.store.proofs.WriteLaws.{count-here, mount-write, mount-still}
 use borrow.Author.Needs.{needs}
 use Rattle.store_mounting.proofs.mount_step.Statement.{statement}
@@ -13,6 +14,7 @@ word-at-requires : tie.Need-word-at-requires
 word-at-requires c κs = let m = c .before .before .before .pre (c .before .if1 .left) in search needs
 
 add-next : tie.Need-add-next
+unfolding gN
 add-next c = let s = c .before .before .before .before in let m = s .pre (c .before .before .if1 .left) in omega (arith, m .count, m .laid .t, m .laid .room, count-here (now (s .args .card)) (omega arith), c .word-at .ensures)
 
 sector-with-requires : tie.Need-sector-with-requires

@@ -1,6 +1,7 @@
 -- All places, then the word in the working image. Assumes nothing.
 use Prim.Native.Nat.{_+_, _-_}
 use native.Mathlib.Omega.{arith}
+use Rattle.counts.specs.Geometry.{gN}
 use Rattle.store.specs.Steps.{syncWork}
 use Rattle.store.proofs.SyncCounts.{sync-all}
 use borrow.Author.Needs.{needs}
@@ -17,6 +18,7 @@ sync-steps-requires : tie.Need-sync-steps-requires
 sync-steps-requires c κs = search needs
 
 set-word-requires : tie.Need-set-word-requires
+unfolding gN
 set-word-requires c κs = search needs
 
 after-sync-requires : tie.Need-after-sync-requires

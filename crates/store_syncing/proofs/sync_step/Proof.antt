@@ -1,6 +1,7 @@
 -- By which place it is. Assumes nothing.
 use mathlib.Core.Path.{_∙_}
 use native.Mathlib.Omega.{arith}
+use Rattle.counts.specs.Geometry.{gN}
 use Rattle.store.specs.Steps.{tableSector}
 use Rattle.store.proofs.SyncLaws.{sync-first, sync-past, sync-rest, sync-table}
 use Rattle.store.proofs.SyncCounts.{count-first, count-past, count-rest, count-table}
@@ -42,6 +43,7 @@ returns-3 : tie.Need-returns-3
 returns-3 c = (sync-rest _ _ _ (omega arith) (c .if3 .taken), (count-rest _ _ _ (omega arith) (c .if3 .taken), omega arith))
 
 table-block-requires : tie.Need-table-block-requires
+unfolding gN
 table-block-requires c κs = search needs
 
 add-t20 : tie.Need-add-t20
@@ -51,6 +53,7 @@ slice-aggregate-write-sector : tie.Need-slice-aggregate-write-sector
 slice-aggregate-write-sector c = search needs
 
 write-sector-requires : tie.Need-write-sector-requires
+unfolding gN
 write-sector-requires c κs = search needs
 
 same-length-3 : tie.Need-same-length-3

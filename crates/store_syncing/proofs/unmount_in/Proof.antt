@@ -1,6 +1,7 @@
 -- All places, and the working image. Assumes nothing.
 use Prim.Native.Nat.{_+_, _-_}
 use native.Mathlib.Omega.{arith}
+use Rattle.counts.specs.Geometry.{gN}
 use Rattle.store.proofs.SyncCounts.{down-all}
 use borrow.Author.Needs.{needs}
 use Rattle.store_syncing.proofs.unmount_in.Statement.{statement}
@@ -16,6 +17,7 @@ unmount-steps-requires : tie.Need-unmount-steps-requires
 unmount-steps-requires c κs = search needs
 
 unmount-work-requires : tie.Need-unmount-work-requires
+unfolding gN
 unmount-work-requires c κs = search needs
 
 same-length : tie.Need-same-length
