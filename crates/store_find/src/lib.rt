@@ -1,7 +1,7 @@
 // What put finds in a session's two views: an entry and a run of sectors.
 ghost use mathlib.Core.Path.{_≡_};
 ghost use mathlib.Core.Bool.{true};
-ghost use Prim.Native.Nat.{_+_, _-_, _*_, min, _≤_, _<_};
+ghost use Prim.Native.Nat.{_+_, _-_, _*_, _/_, min, _≤_, _<_};
 ghost use lib.ListN.{length};
 ghost use Rattle.words.specs.declared.Found.the-variants.{Nowhere};
 ghost use Rattle.sectors.specs.Sectors.{sec};
@@ -10,11 +10,11 @@ ghost use Rattle.counts.specs.Stamps.{tableIn};
 ghost use Rattle.counts.specs.Inner.{LaidOut};
 ghost use Rattle.entries.specs.Entries.{sectorsFor};
 ghost use Rattle.apages.specs.Runs.{runAfter, lowestRun, goalRun};
-ghost use Rattle.apages.specs.Index.{pageAt, pageIn};
+ghost use Rattle.apages.specs.Index.{pageIn};
 ghost use Rattle.apages.specs.Inner.{PairIn, runFrom, runWithin, further};
 ghost use Rattle.session.specs.Fits.{fits};
 ghost use Rattle.store.specs.Edit.{placeIn, runIn};
-ghost use Rattle.store_find.specs.Inner.{foundOf};
+ghost use Rattle.store_find.specs.Inner.{IsPages, foundOf};
 use card_files::page_at;
 use counts::Geo;
 use counts::View;
@@ -27,6 +27,13 @@ use words::Found;
 pub enum Start {
     From(Sector),
     NoRun,
+}
+
+// The two pages of one pair that two views show.
+struct Pages {
+    pair: u32,
+    a: Sector,
+    b: Sector,
 }
 
 // The entry that put uses: one with the name in either view, otherwise the lowest absent in both.
@@ -56,16 +63,24 @@ fn run_between(work: &[u8], p: Sector, q: Sector, k: usize, from: usize, to: usi
     apages::run_within(&work[a..a_end], &work[b..b_end], k, from, to)
 }
 
-// The lowest run in page p, from its place `from` on and below its place `to`, that is free in two views: its first sector, as one of the card.
-fn run_on(work: &[u8], g: Geo, v: View, w: View, p: u32, k: usize, from: usize, to: usize) -> Start
-    requires { ⌜ LaidOut g (now work) × (PairIn g (now work) × ((p < gP g) × ((0 < k) × (to ≤ 4096)))) ⌝ }
-    ensures { λ r. ⌜ foundOf r ≡ further (4096 * p) (runWithin k from to (pageAt g (tableIn g v (sec (now (work .entry)))) (sec (now (work .entry))) p) (pageAt g (tableIn g w (sec (now (work .entry)))) (sec (now (work .entry))) p)) ⌝ }
+// The pages of pair p.
+fn pages_at(work: &[u8], g: Geo, v: View, w: View, p: u32) -> Pages
+    requires { ⌜ LaidOut g (now work) × (p < gP g) ⌝ }
+    ensures { λ r. ⌜ IsPages g (tableIn g v (sec (now (work .entry)))) (tableIn g w (sec (now (work .entry)))) (sec (now (work .entry))) r × (r .pair ≡ p) ⌝ }
 {
     let a = page_at(work, g, v, p);
     let b = page_at(work, g, w, p);
-    let here = run_between(work, a, b, k, from, to);
+    Pages { pair: p, a, b }
+}
+
+// The lowest run, from the pages' place `from` on and below their place `to`, that both have clear: its first sector, as one of the card.
+fn run_on(work: &[u8], x: Pages, k: usize, from: usize, to: usize) -> Start
+    requires { ⌜ (512 * x .a .0 + 512 ≤ length (now work)) × ((512 * x .b .0 + 512 ≤ length (now work)) × ((x .pair < 16) × ((0 < k) × (to ≤ 4096)))) ⌝ }
+    ensures { λ r. ⌜ foundOf r ≡ further (4096 * x .pair) (runWithin k from to (sec (now (work .entry)) (x .a .0)) (sec (now (work .entry)) (x .b .0))) ⌝ }
+{
+    let here = run_between(work, x.a, x.b, k, from, to);
     match here {
-        Found::At(n) => Start::From(Sector(4096 * p + (n as u32))),
+        Found::At(n) => Start::From(Sector(4096 * x.pair + (n as u32))),
         Found::Nowhere => Start::NoRun,
     }
 }
@@ -77,7 +92,8 @@ fn lowest_in(work: &[u8], g: Geo, v: View, w: View, k: usize, first: u32, end: u
 {
     let mut p = first;
     while p < end {
-        let here = run_on(work, g, v, w, p, k, 0, 4096);
+        let x = pages_at(work, g, v, w, p);
+        let here = run_on(work, x, k, 0, 4096);
         if let Start::From(a) = here {
             return Start::From(a);
         }
@@ -86,18 +102,17 @@ fn lowest_in(work: &[u8], g: Geo, v: View, w: View, k: usize, first: u32, end: u
     Start::NoRun
 }
 
-// "the first fitting run at or after it": the goal's page from the goal on, then the later pages.
-fn after_in(work: &[u8], g: Geo, v: View, w: View, k: usize, goal: Sector) -> Start
-    requires { ⌜ LaidOut g (now work) × (PairIn g (now work) × ((goal .0 < g .s) × (0 < k))) ⌝ }
+// "the first fitting run at or after it": the goal's pages from the goal on, then those of the later pairs.
+fn after_in(work: &[u8], g: Geo, v: View, w: View, k: usize, goal: Sector, x: Pages) -> Start
+    requires { ⌜ LaidOut g (now work) × (PairIn g (now work) × ((goal .0 < g .s) × ((0 < k) × (IsPages g (tableIn g v (sec (now work))) (tableIn g w (sec (now work))) (sec (now work)) x × (x .pair ≡ goal .0 / 4096))))) ⌝ }
     ensures { λ r. ⌜ foundOf r ≡ runAfter k (goal .0) (pageIn g (tableIn g v (sec (now (work .entry)))) (sec (now (work .entry)))) (pageIn g (tableIn g w (sec (now (work .entry)))) (sec (now (work .entry)))) ⌝ }
 {
-    let p = goal.0 / 4096;
-    let here = run_on(work, g, v, w, p, k, (goal.0 % 4096) as usize, 4096);
+    let here = run_on(work, x, k, (goal.0 % 4096) as usize, 4096);
     if let Start::From(a) = here {
         return Start::From(a);
     }
     let pairs = counts::pairs(g);
-    lowest_in(work, g, v, w, k, p + 1, pairs)
+    lowest_in(work, g, v, w, k, x.pair + 1, pairs)
 }
 
 // The end of what a run of k sectors that starts below `from` can reach of a page.
@@ -109,28 +124,28 @@ fn reach(from: usize, k: usize) -> usize
 }
 
 // "else the lowest", where none starts at or after the goal: the pages before the goal's, then of its own no more than a run from below the goal can reach.
-fn below_in(work: &[u8], g: Geo, v: View, w: View, k: usize, goal: Sector) -> Start
-    requires { ⌜ LaidOut g (now work) × (PairIn g (now work) × ((goal .0 < g .s) × ((0 < k) × (runAfter k (goal .0) (pageIn g (tableIn g v (sec (now work))) (sec (now work))) (pageIn g (tableIn g w (sec (now work))) (sec (now work))) ≡ Nowhere)))) ⌝ }
+fn below_in(work: &[u8], g: Geo, v: View, w: View, k: usize, goal: Sector, x: Pages) -> Start
+    requires { ⌜ LaidOut g (now work) × (PairIn g (now work) × ((goal .0 < g .s) × ((0 < k) × ((runAfter k (goal .0) (pageIn g (tableIn g v (sec (now work))) (sec (now work))) (pageIn g (tableIn g w (sec (now work))) (sec (now work))) ≡ Nowhere) × (IsPages g (tableIn g v (sec (now work))) (tableIn g w (sec (now work))) (sec (now work)) x × (x .pair ≡ goal .0 / 4096)))))) ⌝ }
     ensures { λ r. ⌜ foundOf r ≡ lowestRun k (pageIn g (tableIn g v (sec (now (work .entry)))) (sec (now (work .entry)))) (pageIn g (tableIn g w (sec (now (work .entry)))) (sec (now (work .entry)))) ⌝ }
 {
-    let p = goal.0 / 4096;
-    let lower = lowest_in(work, g, v, w, k, 0, p);
+    let lower = lowest_in(work, g, v, w, k, 0, x.pair);
     if let Start::From(a) = lower {
         return Start::From(a);
     }
     let end = reach((goal.0 % 4096) as usize, k);
-    run_on(work, g, v, w, p, k, 0, end)
+    run_on(work, x, k, 0, end)
 }
 
-// "the first fitting run at or after it, else the lowest": no more than one pass over all pages and k - 1 sectors.
+// "the first fitting run at or after it, else the lowest": no more than one pass over all pages, each looked up once, and k - 1 sectors.
 fn goal_in(work: &[u8], g: Geo, v: View, w: View, k: usize, goal: Sector) -> Start
     requires { ⌜ LaidOut g (now work) × (PairIn g (now work) × ((goal .0 < g .s) × (0 < k))) ⌝ }
     ensures { λ r. ⌜ foundOf r ≡ goalRun k (goal .0) (pageIn g (tableIn g v (sec (now (work .entry)))) (sec (now (work .entry)))) (pageIn g (tableIn g w (sec (now (work .entry)))) (sec (now (work .entry)))) ⌝ }
 {
-    let after = after_in(work, g, v, w, k, goal);
+    let x = pages_at(work, g, v, w, goal.0 / 4096);
+    let after = after_in(work, g, v, w, k, goal, x);
     match after {
         Start::From(a) => Start::From(a),
-        Start::NoRun => below_in(work, g, v, w, k, goal),
+        Start::NoRun => below_in(work, g, v, w, k, goal, x),
     }
 }
 

@@ -1,11 +1,12 @@
--- The goal's page from the goal on, then the later pages. Assumes nothing.
+-- The goal's pages from the goal on, then those of the later pairs. Assumes nothing.
 use mathlib.Core.Path.{ap}
 use native.Mathlib.Omega.{arith}
 use borrow.Author.Needs.{needs}
 use denote.Ref.{now}
-use Rattle.counts.proofs.TableLaws.{pages-cover}
+use Rattle.counts.proofs.TableLaws.{pages-cover, pages-few}
 use Rattle.apages.proofs.ImageSearch.{after-here, after-later}
 use Rattle.store_find.specs.Inner.{foundOf}
+use Rattle.store_find.proofs.PageLaws.{pages-found, pages-held}
 use Rattle.store_find.proofs.after_in.Statement.{statement}
 use Rattle.store_find.proofs.after_in.Tie as tie
 
@@ -14,16 +15,17 @@ cast-run-on c = search needs
 
 run-on-requires : tie.Need-run-on-requires
 run-on-requires c κs =
-    let s = c .before .before .before in
-    (s .pre .0, (s .pre .1 .0, (omega (arith, s .pre .1 .1 .0, pages-cover (s .args .g)), (s .pre .1 .1 .1, omega arith))))
+    let s = c .before .before in
+    pages-held (s .args .g) _ _ (now (s .args .work)) (s .pre .1 .1 .1 .1 .0) (s .pre .0) (s .pre .1 .0) _ _ (s .pre .1 .1 .1 .0) (omega arith)
 
 enum-known-here : tie.Need-enum-known-here
 enum-known-here c = search needs
 
 returns : tie.Need-returns
 returns c =
-    let s = c .before .before .before .before .before .before .before in
-    after-here (s .args .g) _ _ (now (s .args .work)) _ (s .pre .0) (s .pre .1 .0) (s .pre .1 .1 .1) _ (omega (arith, s .pre .1 .1 .0, pages-cover (s .args .g))) (c .before .before .before .run-on .ensures) _ (ap foundOf (c .before .here .given .1))
+    let s = c .before .before .before .before .before .before in
+    after-here (s .args .g) _ _ (now (s .args .work)) _ (s .pre .0) (s .pre .1 .0) (s .pre .1 .1 .1 .0) _ (omega (arith, s .pre .1 .1 .0, pages-cover (s .args .g)))
+    (pages-found (s .args .g) _ _ (now (s .args .work)) (s .pre .1 .1 .1 .1 .0) _ _ _ (s .pre .1 .1 .1 .1 .1) (c .before .before .before .run-on .ensures)) _ (ap foundOf (c .before .here .given .1))
 
 enum-told : tie.Need-enum-told
 enum-told c = search needs
@@ -32,17 +34,19 @@ pairs-requires : tie.Need-pairs-requires
 pairs-requires c κs = search needs
 
 add-lowest-in : tie.Need-add-lowest-in
-add-lowest-in c = search needs
+add-lowest-in c = let s = c .before .before .before .before .before .before .before in omega (arith, s .pre .1 .1 .1 .1 .0 .below, pages-few (s .args .g) (s .pre .0 .s))
 
 lowest-in-requires : tie.Need-lowest-in-requires
 lowest-in-requires c κs =
     let s = c .before .before .before .before .before .before .before in
-    (s .pre .0, (s .pre .1 .0, (omega (arith, c .pairs .ensures), s .pre .1 .1 .1)))
+    (s .pre .0, (s .pre .1 .0, (omega (arith, c .before .pairs .ensures), s .pre .1 .1 .1 .0)))
 
 returns-2 : tie.Need-returns-2
 returns-2 c =
     let s = c .before .before .before .before .before .before .before .before in
-    after-later (s .args .g) _ _ (now (s .args .work)) _ (s .pre .0) (s .pre .1 .0) (s .pre .1 .1 .1) _ (omega (arith, s .pre .1 .1 .0, pages-cover (s .args .g))) (c .before .before .before .before .run-on .ensures) (ap foundOf (c .before .before .enum-told .given .1)) (c .before .pairs .ensures .0) (c .lowest-in .ensures)
+    after-later (s .args .g) _ _ (now (s .args .work)) _ (s .pre .0) (s .pre .1 .0) (s .pre .1 .1 .1 .0) _ (omega (arith, s .pre .1 .1 .0, pages-cover (s .args .g)))
+    (pages-found (s .args .g) _ _ (now (s .args .work)) (s .pre .1 .1 .1 .1 .0) _ _ _ (s .pre .1 .1 .1 .1 .1) (c .before .before .before .before .before .run-on .ensures)) (ap foundOf (c .before .before .before .enum-told .given .1))
+    (c .before .before .pairs .ensures .0) (rw (s .pre .1 .1 .1 .1 .1) at (c .lowest-in .ensures))
 
 pub after-in-spec : {M : Type 1} → statement M
 after-in-spec =
