@@ -14,7 +14,7 @@ use Rattle.counts.specs.Inner.{LaidOut}
 use Rattle.apages.specs.Runs.{runAfter, lowestRun, goalRun}
 use Rattle.apages.specs.Index.{pageAt, pageIn}
 use Rattle.apages.specs.Inner.{PairIn, runFrom, runWithin, further}
-use Rattle.apages.proofs.LowestLaws.{within-found, within-all}
+use Rattle.apages.proofs.LowestLaws.{within-all}
 use Rattle.apages.proofs.MapLaws.{Wide}
 use Rattle.apages.proofs.PageSearch.{pages-wide, run-end, run-turn, after-turn, below-goal}
 
@@ -39,11 +39,6 @@ goal-below k goal p q er en eo = eo ∙ rw (← er, en) (unfold orElse in refl)
 module _ (g : Geo) (tp tc img : List ℕ) (c : ℕ) (laid : LaidOut g img) (pairs : PairIn g img) (some : 0 < c) where
   wide : (tab : List ℕ) → Wide g tab (sec img)
   wide = pages-wide g img laid pairs
-
-  -- a run found in one page ends in it
-  pub search-inside : (p j e a : ℕ) {h : Found} → p < gP g → e ≤ 4096 → h ≡ runWithin c j e (pageAt g tp (sec img) p) (pageAt g tc (sec img) p) → h ≡ At a → a + c ≤ e
-  search-inside p j e a l b eh ea =
-      within-found c (pageAt g tp (sec img) p) (pageAt g tc (sec img) p) some (wide tp p l ∙ sym (wide tc p l)) j e a (omega (arith, wide tp p l)) (sym eh ∙ ea)
 
   -- a search with no end but the page's
   whole : (p j : ℕ) → p < gP g → runWithin c j 4096 (pageAt g tp (sec img) p) (pageAt g tc (sec img) p) ≡ runAfter c j (pageAt g tp (sec img) p) (pageAt g tc (sec img) p)

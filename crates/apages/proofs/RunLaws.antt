@@ -4,7 +4,6 @@ use mathlib.Core.Logic.{⊎-elim}
 use mathlib.Core.List.{List, [], _∷_}
 use Prim.Native.Nat.{ℕ, zero, suc, _+_, _-_, _*_, _≤_, _<_}
 use native.Mathlib.Decide.{ℕ-discrete}
-use native.Mathlib.Numerals.{add-one}
 use native.Mathlib.Omega.{arith}
 use lib.Dec.{lit<}
 use lib.ListN.{length, getD}
@@ -19,11 +18,7 @@ pub run-none : (p : List ℕ) (a v : ℕ) → setRun p a 0 v ≡ p
 unfolding setRun
 run-none p a v = refl
 
--- one turn of a loop that sets a run, and its end
-pub run-step : (p : List ℕ) {d e : List ℕ} (a k v : ℕ) → d ≡ setRun p a k v → e ≡ putBit d (a + k) v → e ≡ setRun p a (k + 1) v
-unfolding setRun
-run-step p a k v x y = y ∙ ap (λ l. putBit l (a + k) v) x ∙ rw add-one
-
+-- the end of a loop that sets a run
 pub run-done : (p : List ℕ) {d : List ℕ} (a i k v : ℕ) → d ≡ setRun p a i v → i ≡ k → d ≡ setRun p a k v
 run-done p a i k v x y = x ∙ ap (λ j. setRun p a j v) y
 

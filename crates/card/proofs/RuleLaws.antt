@@ -1,5 +1,5 @@
 -- The bitmap's rule after one change: a run set, then a run cleared. Assumes nothing.
-use mathlib.Core.Path.{_≡_, refl, ap, _∙_, fun-ext}
+use mathlib.Core.Path.{_≡_, refl, _∙_}
 use mathlib.Core.Bool.{true}
 use mathlib.Core.List.{List}
 use Prim.Native.Nat.{ℕ, _+_, _*_, _≤_, _<_}
@@ -27,10 +27,6 @@ pub cover-version : (p : List ℕ) (v : Version) (fs : List Line) (i : ℕ) → 
 unfolding consFile cover runOf
 cover-version p Absent fs i = omega (arith, count-run (runOf Absent) i, out-run 0 0 i (λ q. omega (arith, q .1)))
 cover-version p (Present r) fs i = refl
-
--- a page depends on how often its sectors are counted
-pub page-counts : (g : Geo) (count count′ : ℕ → ℕ) (p : List ℕ) → ((n : ℕ) → count′ n ≡ count n) → pageOk g count p ≡ true → pageOk g count′ p ≡ true
-page-counts g count count′ p e h = ap (λ (c : ℕ → ℕ). pageOk g c p) (fun-ext e) ∙ h
 
 module _ (g : Geo) (ok : geoOk g ≡ true) (count count′ : ℕ → ℕ) (p : List ℕ) (wide : length p ≡ 512 * gP g) (was : pageOk g count p ≡ true) (a k b m : ℕ)
     (sum : (n : ℕ) → count′ n + inRun b m n ≡ count n + inRun a k n)

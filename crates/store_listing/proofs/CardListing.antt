@@ -18,7 +18,7 @@ use Rattle.card.proofs.SoundTests.{shape-laid, as-table}
 use Rattle.store_listing.specs.declared.Listing.{Listing}
 use Rattle.store_listing.specs.Listings.{filesBy, noListing, viewListing, listingIn, cardListing}
 use Rattle.store_listing.specs.Inner.{HasRoom}
-use Rattle.store_listing.proofs.ListingLaws.{none-ready, in-ready, Fills, none-fills, in-fills, Stay, fills-stay}
+use Rattle.store_listing.proofs.ListingLaws.{none-ready, in-ready, Fills, none-fills, in-fills}
 
 pub card-text : (card : List ℕ) (room : ℕ) → cardListing card room
     ≡ cond (shapeOk card) (cond (sound card) (listingIn (geoOf (sec card)) (asIs (geoOf (sec card))) card room) (noListing 2)) (noListing 1)
@@ -67,6 +67,3 @@ read-fills-by card lines false c e = none-fills 1 card lines
 pub read-fills : (card : List ℕ) (lines : List Line) → Fills (cardListing card (length lines)) card lines (readList card lines)
 unfolding readList readPlan
 read-fills card lines = rw (card-text card (length lines)) (read-fills-by card lines (shapeOk card) (sound card) refl)
-
-pub read-list-stay : (card : List ℕ) (lines : List Line) → Stay lines (readList card lines)
-read-list-stay card lines = fills-stay _ _ _ _ (read-fills card lines)

@@ -66,16 +66,6 @@ unfolding pairwise
 pair-next f l i d h = rw (add-one, drop-cons l i d h)
 
 module _ {A : Type 0} (f : A → A → Bool) (l : List A) (d : A) {b : Bool} where
-  pub pair-stop : (i : ℕ) (r : Bool) → i < length l → r ≡ every (f (getD l i d)) (drop (i + 1) l) → not r ≡ true → b ≡ pairwise f (drop i l) → false ≡ b
-  pair-stop i r h e n inv =
-      let z : every (f (getD l i d)) (drop (i + 1) l) ≡ false = sym e ∙ not-true r n in
-      sym (inv ∙ pair-next f l i d h ∙ ap (λ (b : Bool). b && pairwise f (drop (i + 1) l)) z)
-
-  pub pair-go : (i : ℕ) (r : Bool) → i < length l → r ≡ every (f (getD l i d)) (drop (i + 1) l) → not r ≡ false → b ≡ pairwise f (drop i l) → b ≡ pairwise f (drop (i + 1) l)
-  pair-go i r h e n inv =
-      let z : every (f (getD l i d)) (drop (i + 1) l) ≡ true = sym e ∙ not-false r n in
-      inv ∙ pair-next f l i d h ∙ ap (λ (b : Bool). b && pairwise f (drop (i + 1) l)) z
-
   pub pair-end : (i : ℕ) → length l ≤ i → b ≡ pairwise f (drop i l) → true ≡ b
   unfolding pairwise
   pair-end i h inv = sym (inv ∙ ap (λ (x : List A). pairwise f x) (drop-of-length-le l h))
