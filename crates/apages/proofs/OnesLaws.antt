@@ -18,7 +18,7 @@ use Rattle.words.proofs.WordLaws.{word_at-get_or}
 use Rattle.apages.specs.Bits.{digit, bit_at, clear_bits}
 use Rattle.apages.proofs.BitLaws.{digit-suc, digit-full, bit-lt}
 use Rattle.apages.proofs.RunLaws.{clear-total}
-use Rattle.apages.specs.Ones.{word64_at, ones_of, set_bits, all_set_lem}
+use Rattle.apages.specs.Ones.{word64_at, ones_of, set_bits, all_set}
 
 -- ---- the ones of a word
 
@@ -100,22 +100,22 @@ set-clear m =
 
 -- ---- a run of bits that is set
 
-pub all-at : (m : List ℕ) (k a n : ℕ) → all_set_lem m a k ≡ true → a ≤ n → n < a + k → bit_at m n ≡ 1
-unfolding all_set_lem
+pub all-at : (m : List ℕ) (k a n : ℕ) → all_set m a k ≡ true → a ≤ n → n < a + k → bit_at m n ≡ 1
+unfolding all_set
 all-at m zero a n h x y = absurd (omega arith)
-all-at m (suc k) a n h x y = go (all-at m k (suc a) n (both (eqb (bit_at m a) 1) (all_set_lem m (suc a) k) h).1) (ℕ_discrete a n)
+all-at m (suc k) a n h x y = go (all-at m k (suc a) n (both (eqb (bit_at m a) 1) (all_set m (suc a) k) h).1) (ℕ_discrete a n)
   where
     go : (suc a ≤ n → n < suc a + k → bit_at m n ≡ 1) → Dec (a ≡ n) → bit_at m n ≡ 1
-    go ih (yes e) = ap (bit_at m) (sym e) ∙ eqb-true _ 1 (both (eqb (bit_at m a) 1) (all_set_lem m (suc a) k) h).0
+    go ih (yes e) = ap (bit_at m) (sym e) ∙ eqb-true _ 1 (both (eqb (bit_at m a) 1) (all_set m (suc a) k) h).0
     go ih (no e) = ih (omega arith) (omega arith)
 
-pub all_set_lem : (m : List ℕ) (k a : ℕ) → ((n : ℕ) → a ≤ n → n < a + k → bit_at m n ≡ 1) → all_set_lem m a k ≡ true
-unfolding all_set_lem
+pub all_set_lem : (m : List ℕ) (k a : ℕ) → ((n : ℕ) → a ≤ n → n < a + k → bit_at m n ≡ 1) → all_set m a k ≡ true
+unfolding all_set
 all_set_lem m zero a h = refl
 all_set_lem m (suc k) a h = join _ _ (eq-eqb (bit_at m a) 1 (h a (omega arith) (omega arith))) (all_set_lem m k (suc a) (λ n x y. h n (omega arith) (omega arith)))
 
 -- a full word's bits, a full byte's, and one bit that is set or none
-pub word_set : (m : List ℕ) (bytes : (j : ℕ) → get_or m j 0 < 256) (n : ℕ) → n % 64 ≡ 0 → word64_at m (n / 8) ≡ 18446744073709551615 → all_set_lem m n 64 ≡ true
+pub word_set : (m : List ℕ) (bytes : (j : ℕ) → get_or m j 0 < 256) (n : ℕ) → n % 64 ≡ 0 → word64_at m (n / 8) ≡ 18446744073709551615 → all_set m n 64 ≡ true
 word_set m bytes n z h =
     all_set_lem m 64 n
     (λ i x y. let e : 8 * (n / 8) + (i - n) ≡ i = omega arith in
@@ -128,40 +128,40 @@ word_set m bytes n z h =
         omega
         (arith, total-one 64, total-split (bit_at m) (8 * (n / 8)) 64, rw a at (bytes-more m bytes (n / 8) 8), word_ones m bytes (n / 8), ones-word (word64_at m (n / 8)) (word_lt m bytes (n / 8)))
 
-pub full-set : (m : List ℕ) (n : ℕ) → n % 8 ≡ 0 → get_or m (n / 8) 0 ≡ 255 → all_set_lem m n 8 ≡ true
+pub full-set : (m : List ℕ) (n : ℕ) → n % 8 ≡ 0 → get_or m (n / 8) 0 ≡ 255 → all_set m n 8 ≡ true
 unfolding bit_at
 full-set m n z h =
     all_set_lem m 8 n
     (λ i x y. let e : i / 8 ≡ n / 8 = omega arith in
     rw (e, h) (digit-full (i % 8) (omega arith)))
 
-pub bit-set : (m : List ℕ) (n : ℕ) {b : ℕ} → b ≡ bit_at m n → all_set_lem m n b ≡ true
+pub bit-set : (m : List ℕ) (n : ℕ) {b : ℕ} → b ≡ bit_at m n → all_set m n b ≡ true
 bit-set m n {b} e = all_set_lem m b n (λ i x y. let q : i ≡ n = omega (arith, bit-lt m n) in rw q (omega (arith, bit-lt m n)))
 
 -- the answer after the first r of a run, which are set
-all-skip : (m : List ℕ) (r a k : ℕ) → r ≤ k → all_set_lem m a r ≡ true → all_set_lem m a k ≡ all_set_lem m (a + r) (k - r)
-unfolding all_set_lem
+all-skip : (m : List ℕ) (r a k : ℕ) → r ≤ k → all_set m a r ≡ true → all_set m a k ≡ all_set m (a + r) (k - r)
+unfolding all_set
 all-skip m zero a k l h = let e : k - 0 ≡ k = omega arith in rw (add-zero, e)
 all-skip m (suc r) a zero l h = absurd (omega arith)
 all-skip m (suc r) a (suc k) l h =
-    let (x, y) = both (eqb (bit_at m a) 1) (all_set_lem m (suc a) r) h in
+    let (x, y) = both (eqb (bit_at m a) 1) (all_set m (suc a) r) h in
     let e : a + suc r ≡ suc a + r = omega arith in
     let f : suc k - suc r ≡ k - r = omega arith in
     rw (e, f, x) (all-skip m r (suc a) k (omega arith) y)
 
-pub all_start : (m : List ℕ) (a k : ℕ) → all_set_lem m a k ≡ all_set_lem m (a + 0) (k - 0)
+pub all_start : (m : List ℕ) (a k : ℕ) → all_set m a k ≡ all_set m (a + 0) (k - 0)
 all_start m a k = let e : k - 0 ≡ k = omega arith in rw (add-zero, e)
 
-pub all_go : (m : List ℕ) (a k i : ℕ) (r : ℕ) → i + r ≤ k → all_set_lem m (a + i) r ≡ true → all_set_lem m a k ≡ all_set_lem m (a + i) (k - i) → all_set_lem m a k ≡ all_set_lem m (a + (i + r)) (k - (i + r))
+pub all_go : (m : List ℕ) (a k i : ℕ) (r : ℕ) → i + r ≤ k → all_set m (a + i) r ≡ true → all_set m a k ≡ all_set m (a + i) (k - i) → all_set m a k ≡ all_set m (a + (i + r)) (k - (i + r))
 all_go m a k i r l h inv =
     let e : a + i + r ≡ a + (i + r) = omega arith in
     let f : k - i - r ≡ k - (i + r) = omega arith in
     inv ∙ all-skip m r (a + i) (k - i) (omega arith) h ∙ rw (e, f)
 
-pub all-stop : (m : List ℕ) (a k i : ℕ) → i < k → bit_at m (a + i) ≡ 0 → all_set_lem m a k ≡ all_set_lem m (a + i) (k - i) → false ≡ all_set_lem m a k
-unfolding all_set_lem
+pub all-stop : (m : List ℕ) (a k i : ℕ) → i < k → bit_at m (a + i) ≡ 0 → all_set m a k ≡ all_set m (a + i) (k - i) → false ≡ all_set m a k
+unfolding all_set
 all-stop m a k i l z inv = let e : k - i ≡ suc (k - suc i) = omega arith in sym (inv ∙ rw (e, z))
 
-pub all_end : (m : List ℕ) (a k i : ℕ) → k ≤ i → all_set_lem m a k ≡ all_set_lem m (a + i) (k - i) → true ≡ all_set_lem m a k
-unfolding all_set_lem
+pub all_end : (m : List ℕ) (a k i : ℕ) → k ≤ i → all_set m a k ≡ all_set m (a + i) (k - i) → true ≡ all_set m a k
+unfolding all_set
 all_end m a k i l inv = let e : k - i ≡ 0 = omega arith in sym (rw e at inv)

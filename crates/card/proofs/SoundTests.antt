@@ -17,7 +17,7 @@ use Rattle.sectors.specs.Sectors.{sec}
 use Rattle.counts.specs.declared.Geo.{Geo}
 use Rattle.counts.specs.declared.View.{View}
 use Rattle.counts.specs.Geometry.{g_n, g_f, geo_ok, geo_of, count_of, table_of}
-use Rattle.counts.specs.Stamps.{table_in, as_is_lem, table_ok}
+use Rattle.counts.specs.Stamps.{table_in, as_is, table_ok}
 use Rattle.counts.specs.Inner.{InLimits, LaidOut}
 use Rattle.counts.proofs.TableLaws.{ok-laid, as_is_lem}
 use Rattle.directory.specs.Directory.{entries_of, apart}
@@ -87,7 +87,7 @@ and-true true = refl
 and-true false = refl
 
 -- the view that takes the table as it is
-module _ (g : Geo) (img : List ℕ) (laid : LaidOut g img) {v : View} (e : v ≡ as_is_lem g) where
+module _ (g : Geo) (img : List ℕ) (laid : LaidOut g img) {v : View} (e : v ≡ as_is g) where
   pub as-table : table_in g v (sec img) ≡ table_of g (sec img)
   as-table = rw e (as_is_lem g img laid)
 
@@ -116,7 +116,7 @@ module _ (g : Geo) (img : List ℕ) (laid : LaidOut g img) {a : Bool} (ea : a �
   unfolding sound_in
   sound-counts n = let z : counts_ok g (sec img) ≡ false = sym ea ∙ not-true a n in rw z
 
-  module _ {v : View} {C : ℕ} {b : Bool} (n : not a ≡ false) (e : v ≡ as_is_lem g) (e_c : C ≡ count_of (sec img)) (eb : b ≡ view_ok g C (table_in g v (sec img)) (sec img)) where
+  module _ {v : View} {C : ℕ} {b : Bool} (n : not a ≡ false) (e : v ≡ as_is g) (e_c : C ≡ count_of (sec img)) (eb : b ≡ view_ok g C (table_in g v (sec img)) (sec img)) where
     view-here : b ≡ view_ok g (count_of (sec img)) (table_of g (sec img)) (sec img)
     view-here = rw (← e_c, ← as-table g img laid e) eb
 
@@ -138,7 +138,7 @@ unfolding sound
 sound-of img g e f = f ∙ ap (λ (x : Geo). sound_in x (sec img)) e
 
 -- a sound card's view passes
-sound-view : (img : List ℕ) (g : Geo) {v : View} → g ≡ geo_of (sec img) → v ≡ as_is_lem g → LaidOut g img → sound img ≡ true → view_ok g (count_of (sec img)) (table_in g v (sec img)) (sec img) ≡ true
+sound-view : (img : List ℕ) (g : Geo) {v : View} → g ≡ geo_of (sec img) → v ≡ as_is g → LaidOut g img → sound img ≡ true → view_ok g (count_of (sec img)) (table_in g v (sec img)) (sec img) ≡ true
 unfolding sound sound_in
 sound-view img g {v} e f laid h =
     let q : sound_in g (sec img) ≡ true = rw e h in
@@ -148,7 +148,7 @@ sound-view img g {v} e f laid h =
     rw (as-table g img laid f) (both b w (both (b && w) p q).0).1
 
 -- what a sound card says of the view that takes its table as it is: A and B, and the runs
-module _ (img : List ℕ) (g : Geo) {v : View} (e : g ≡ geo_of (sec img)) (f : v ≡ as_is_lem g) (shape : shape_ok img ≡ true) (ok : sound img ≡ true) where
+module _ (img : List ℕ) (g : Geo) {v : View} (e : g ≡ geo_of (sec img)) (f : v ≡ as_is g) (shape : shape_ok img ≡ true) (ok : sound img ≡ true) where
   pub sound-pair : PairIn g img
   sound-pair = passed-pair g (count_of (sec img)) (table_in g v (sec img)) img (sound-view img g e f (shape-laid img g e shape) ok)
 

@@ -20,7 +20,7 @@ use Rattle.entries.specs.Entries.{shown}
 use Rattle.entries.proofs.PassLaws.{RunIs, run_is}
 use Rattle.apages.specs.Bits.{bit_at}
 use Rattle.apages.proofs.BitLaws.{bit-lt}
-use Rattle.apages.specs.Ones.{set_bits, all_set_lem}
+use Rattle.apages.specs.Ones.{set_bits, all_set}
 use Rattle.apages.proofs.OnesLaws.{all-at, all_set_lem}
 use Rattle.apages.specs.Runs.{wanted, page_ok}
 use Rattle.card.specs.Files.{files_of, cover, sectors_of, run_of}
@@ -151,8 +151,8 @@ module _ (g : Geo) (tab : List ℕ) (es : List (List ℕ)) (m : List ℕ) (first
 
   -- the tests, one by one
   record Tallied : Type 0 where
-    low : all_set_lem m 0 (g_f g) ≡ true
-    high : all_set_lem m g.s (8 * length m - g.s) ≡ true
+    low : all_set m 0 (g_f g) ≡ true
+    high : all_set m g.s (8 * length m - g.s) ≡ true
     set : every (held_by tab m) es ≡ true
     apart : pairwise (parted_in tab) es ≡ true
     count : set_bits m ≡ fixed_bits g (8 * length m) + sectors_of (files_of tab es)
@@ -163,7 +163,7 @@ module _ (g : Geo) (tab : List ℕ) (es : List (List ℕ)) (m : List ℕ) (first
       let (h₁, e) = both _ (eqb (set_bits m) (fixed_bits g (8 * length m) + sectors_of (files_of tab es))) h in
       let (h₂, d) = both _ (pairwise (parted_in tab) es) h₁ in
       let (h₃, c) = both _ (every (held_by tab m) es) h₂ in
-      let (a, b) = both (all_set_lem m 0 (g_f g)) (all_set_lem m g.s (8 * length m - g.s)) h₃ in
+      let (a, b) = both (all_set m 0 (g_f g)) (all_set m g.s (8 * length m - g.s)) h₃ in
       record { low = a; high = b; set = c; apart = d; count = eqb-true _ _ e }
 
   tally-all : Tallied → tally_ok g tab es m ≡ true
@@ -219,7 +219,7 @@ tally-page g tab es m first top bytes runs = go (tally_ok g tab es m) (page_ok g
 
 -- the tests as code makes them
 pub tally-here : (g : Geo) (tab : List ℕ) (es : List (List ℕ)) (m : List ℕ) → g_f g ≤ 8 * length m → g.s ≤ 8 * length m → ((j : ℕ) → get_or m j 0 < 256) → RunsOk g tab es
-    → {a b c d : Bool} {n k s : ℕ} → a ≡ all_set_lem m 0 (g_f g) → b ≡ all_set_lem m g.s (8 * length m - g.s) → c ≡ every (held_by tab m) es → d ≡ pairwise (parted_in tab) es
+    → {a b c d : Bool} {n k s : ℕ} → a ≡ all_set m 0 (g_f g) → b ≡ all_set m g.s (8 * length m - g.s) → c ≡ every (held_by tab m) es → d ≡ pairwise (parted_in tab) es
     → n ≡ set_bits m → k ≡ fixed_bits g (8 * length m) → s ≡ sectors_of (files_of tab es) → (a && b && c && d && eqb n (k + s)) ≡ page_ok g (cover (files_of tab es)) m
 unfolding tally_ok
 tally-here g tab es m first top bytes runs e₁ e₂ e₃ e₄ e₅ e₆ e₇ = rw (e₁, e₂, e₃, e₄, e₅, e₆, e₇) (tally-page g tab es m first top bytes runs)

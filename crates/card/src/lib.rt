@@ -7,7 +7,7 @@ use entries::Run;
 
 // One line a file: name, bytes, start, sectors.
 #[repr(C)]
-#[derive(Drop)]
+#[derive(Clone, Copy)]
 pub struct Line {
     pub size: u32,
     pub name: [u8; 32],
@@ -16,21 +16,21 @@ pub struct Line {
 
 // The number from the table and the count that goes with it.
 #[repr(C)]
-#[derive(Drop)]
+#[derive(Clone, Copy)]
 pub struct Answer {
     pub number: u32,
     pub count: u32,
 }
 
 // The line at a position; the count is 1 where there is one, else 0.
-#[derive(Drop)]
+#[derive(Clone, Copy)]
 pub struct Lined {
     pub answer: Answer,
     pub line: Line,
 }
 
 // What reading a card gives: the number, C, N, the file count and the clear bits shown.
-#[derive(Drop)]
+#[derive(Clone, Copy)]
 pub struct Report {
     pub number: u32,
     pub c: CrashCount,

@@ -148,7 +148,7 @@ pub fn line_in(card: &[u8], g: Geo, v: View, i: u32) -> Line
 }
 
 // A line of a list, and the entry after its own.
-#[derive(Drop)]
+#[derive(Clone, Copy)]
 pub struct Next {
     pub line: Line,
     pub after: usize,

@@ -23,7 +23,7 @@ use entries::Run;
 use sectors::Sector;
 
 // What one walk over the shown runs finds: whether their bits are set, their sectors, and the walk over those that lie one after another.
-#[derive(Drop)]
+#[derive(Clone, Copy)]
 struct Tally {
     set: bool,
     sectors: u32,
@@ -31,7 +31,7 @@ struct Tally {
 }
 
 // The page of a pair.
-#[derive(Drop)]
+#[derive(Clone, Copy)]
 struct Page {
     pair: u32,
     at: Sector,

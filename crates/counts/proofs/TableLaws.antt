@@ -16,7 +16,7 @@ use Rattle.sectors.specs.Sectors.{sec}
 use Rattle.counts.specs.declared.Geo.{Geo}
 use Rattle.counts.specs.declared.View.{View}
 use Rattle.counts.specs.Geometry.{g_p, g_dir, g_f, geo_ok, geo_of, table_from, table_of, g_n}
-use Rattle.counts.specs.Stamps.{table_in, as_is_lem}
+use Rattle.counts.specs.Stamps.{table_in, as_is}
 use Rattle.counts.specs.Inner.{LaidOut}
 
 -- the places: index and pages come before the directory, the directory before the data
@@ -106,8 +106,8 @@ module _ (g : Geo) (img : List ℕ) (laid : LaidOut g img) where
   table-le i h = omega (arith, table-length)
 
   -- the view that takes the table as it is
-  pub as_is_lem : table_in g (as_is_lem g) (sec img) ≡ table_of g (sec img)
-  unfolding table_in as_is_lem g_n
+  pub as_is_lem : table_in g (as_is g) (sec img) ≡ table_of g (sec img)
+  unfolding table_in as_is g_n
   as_is_lem = set_out (table_of g (sec img)) (128 * g.t) 0 (table-le (128 * g.t) (omega arith))
 
   -- word cc as a view takes it: past the table, at the view's own word, and at another

@@ -1,4 +1,6 @@
 // Stamps: when one is alive, its rules, and how it stands to a session's own.
+#![tactic(auto)]
+
 ghost use Rattle.std.specs.Prelude.{◌≡◌, ◌||◌, ◌≤◌, ltb, length, get_or};
 ghost use Rattle.sectors.specs.Sectors.{sec};
 ghost use Rattle.counts.specs.Stamps.{table_in, stamp_of, alive, stamp_ok, dead_below, same_stamp, standing};

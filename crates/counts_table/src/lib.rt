@@ -1,4 +1,6 @@
 // The crash count table: its words are in range, and those past C are 0.
+#![tactic(auto)]
+
 ghost use Rattle.std.specs.Prelude.{◌≡◌, ◌||◌, ◌+◌, ◌≤◌, ◌<◌, leb, ltb, drop, get_or};
 ghost use Rattle.words.specs.Lists.{every, is_zero};
 ghost use Rattle.sectors.specs.Sectors.{sec};

@@ -22,7 +22,7 @@ use Rattle.entries.specs.declared.Run.{Run}
 use Rattle.entries.specs.declared.Version.{Version}
 use Rattle.entries.specs.declared.Version.TheVariants.{Absent, Present}
 use Rattle.entries.specs.declared.Entry.{Entry}
-use Rattle.entries.specs.Entries.{version_of, version_bytes, new_of, old_of, name_bytes, entry_of, entry_rest, entry_bytes, shown_bytes, shown, run_ok_lem, version_ok, changed}
+use Rattle.entries.specs.Entries.{version_of, version_bytes, new_of, old_of, name_bytes, entry_of, entry_rest, entry_bytes, shown_bytes, shown, run_ok, version_ok, changed}
 use Rattle.entries.proofs.PassLaws.{RunIs, run-text, run_small, shown-run}
 use Rattle.entries.proofs.CodecLaws.{FitVersion, FitEntry, version-back, entry_bytes-length, name-bytes, new-bytes, old-bytes, rest-bytes, stamp-back, size_back}
 
@@ -48,7 +48,7 @@ pub good-fit : (g : Geo) (v : Version) → Limits g → GoodVersion g v → FitV
 good-fit g Absent L h = tt
 good-fit g (Present r) L h = let (a, b, c) = run_small g r L h in record { start = a; sectors = b; bytes = c }
 
-run_ok_lem : (g : Geo) (r : Run) → RunIs g r → run_ok_lem g r ≡ true
+run_ok_lem : (g : Geo) (r : Run) → RunIs g r → run_ok g r ≡ true
 run_ok_lem g r R = run-text g r ∙ join _ _ (eq-eqb _ _ R.size) (go r.sectors refl)
   where
     go : (n : ℕ) → r.sectors ≡ n → cond (eqb r.sectors 0) (eqb r.start.0 0) (leb (g_f g) r.start.0 && leb (r.start.0 + r.sectors) g.s && in_page r.start.0 r.sectors) ≡ true

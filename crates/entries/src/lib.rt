@@ -1,4 +1,6 @@
 // Directory entries of 128 bytes: a stamp, a name, and two versions of a file.
+#![tactic(auto)]
+
 ghost use Rattle.std.specs.Prelude.{◌≡◌, ◌+◌, ◌≤◌, length, take, drop};
 ghost use Rattle.words.specs.Lists.{splice, pad};
 ghost use Rattle.counts.specs.Stamps.{becomes_old};
@@ -10,20 +12,20 @@ use sectors::Sector;
 
 // Where a file's content lies, and how long it is.
 #[repr(C)]
-#[derive(Drop)]
+#[derive(Clone, Copy)]
 pub struct Run {
     pub start: Sector,
     pub sectors: u32,
     pub bytes: u32,
 }
 
-#[derive(Drop)]
+#[derive(Clone, Copy)]
 pub enum Version {
     Absent,
     Present(Run),
 }
 
-#[derive(Drop)]
+#[derive(Clone, Copy)]
 pub struct Entry {
     pub stamp: Stamp,
     pub size: u32,

@@ -17,7 +17,7 @@ use Rattle.sectors.proofs.SectorLaws.{sec-part}
 use Rattle.counts.specs.declared.Geo.{Geo}
 use Rattle.counts.specs.declared.View.{View}
 use Rattle.counts.specs.Geometry.{g_n, geo_ok, geo_of, count_of, table_of}
-use Rattle.counts.specs.Stamps.{max_tx, word_max, as_is_lem, table_in}
+use Rattle.counts.specs.Stamps.{max_tx, word_max, as_is, table_in}
 use Rattle.counts.specs.Inner.{LaidOut}
 use Rattle.counts.proofs.TableLaws.{ok-laid, as_is_lem}
 use Rattle.directory.specs.Directory.{entries_of, apart}
@@ -85,7 +85,7 @@ pub word-open : (w : Bool) (t x : ℕ) → w ≡ false → eqb (x + 1) t ≡ wor
 unfolding word_ok
 word-open w t x e = rw e
 
-pub view-worn : (s : Opened) {v : View} → s.worn ≡ true → v ≡ as_is_lem s.geo → v ≡ present_view s
+pub view-worn : (s : Opened) {v : View} → s.worn ≡ true → v ≡ as_is s.geo → v ≡ present_view s
 unfolding present_view
 view-worn s e h = h ∙ rw e
 
@@ -94,7 +94,7 @@ unfolding present_view
 view-open s e = rw e
 
 -- both views as code asks for them
-pub views-here : (s : Opened) (work : List ℕ) → LaidOut s.geo work → {p k : View} {m : ℕ} {a b n : Bool} → p ≡ present_view s → k ≡ as_is_lem s.geo → m ≡ g_n s.geo
+pub views-here : (s : Opened) (work : List ℕ) → LaidOut s.geo work → {p k : View} {m : ℕ} {a b n : Bool} → p ≡ present_view s → k ≡ as_is s.geo → m ≡ g_n s.geo
     → a ≡ view_ok s.geo s.c.0 (table_in s.geo p (sec work)) (sec work)
     → b ≡ view_ok s.geo m (table_in s.geo k (sec work)) (sec work)
     → n ≡ pairwise (apart (table_in s.geo p (sec work)) (table_in s.geo k (sec work))) (entries_of s.geo (sec work))

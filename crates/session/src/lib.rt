@@ -6,7 +6,7 @@ ghost use Rattle.session.specs.Views.{own_stamp, present_view};
 use counts::{CrashCount, Geo, Stamp, TxCount, View};
 
 // An open session: the card's geometry, its counts c and t, and whether t has reached its top and landed.
-#[derive(Drop)]
+#[derive(Clone, Copy)]
 pub struct Opened {
     pub geo: Geo,
     pub c: CrashCount,
@@ -15,7 +15,7 @@ pub struct Opened {
 }
 
 // All closed sessions are one value.
-#[derive(Drop)]
+#[derive(Clone, Copy)]
 pub enum Session {
     Closed,
     Open(Opened),

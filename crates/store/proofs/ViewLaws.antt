@@ -12,7 +12,7 @@ use Rattle.counts.specs.declared.Standing.{Standing}
 use Rattle.counts.specs.declared.View.{View}
 use Rattle.counts.specs.Inner.{LaidOut}
 use Rattle.counts.proofs.TableLaws.{ok-laid, as_is_lem}
-use Rattle.counts.specs.Stamps.{table_in, as_is_lem, standing}
+use Rattle.counts.specs.Stamps.{table_in, as_is, standing}
 use Rattle.entries.specs.declared.Entry.{Entry}
 use Rattle.entries.specs.declared.Run.{Run}
 use Rattle.entries.specs.declared.Version.{Version}
@@ -43,7 +43,7 @@ fit-pair s work h = let F = fit-inv s work h in view-pair _ _ _ _ (view-inv _ _ 
 
 -- ---- put's searches, from what the calls in them say
 
-module _ (s : Opened) (work : List ℕ) {v w : View} (ev : v ≡ present_view s) (ew : w ≡ as_is_lem s.geo) (laid : LaidOut s.geo work) where
+module _ (s : Opened) (work : List ℕ) {v w : View} (ev : v ≡ present_view s) (ew : w ≡ as_is s.geo) (laid : LaidOut s.geo work) where
   pub present-is : table_in s.geo v (sec work) ≡ present_table s (sec work)
   unfolding present_table
   present-is = rw ev

@@ -12,7 +12,7 @@ use counts::{Geo, View};
 use sectors::Sector;
 
 // Both figures of two maps: the sectors that neither has set, and those that only the second has.
-#[derive(Drop)]
+#[derive(Clone, Copy)]
 pub struct Figures {
     pub free: u32,
     pub waiting: u32,

@@ -20,14 +20,14 @@ use session::{Opened, present_view};
 use words::Found;
 
 // Where a search for a run finds one: from its first sector on, or no run.
-#[derive(Drop)]
+#[derive(Clone, Copy)]
 pub enum Start {
     From(Sector),
     NoRun,
 }
 
 // The two pages of one pair that two views show.
-#[derive(Drop)]
+#[derive(Clone, Copy)]
 struct Pages {
     pair: u32,
     a: Sector,

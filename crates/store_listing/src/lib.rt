@@ -19,7 +19,7 @@ use session::Session;
 use session_unfit::unfit;
 
 // What list has judged and counted before it fills a line: its answer, and the view whose files it lists.
-#[derive(Drop)]
+#[derive(Clone, Copy)]
 pub struct Listing {
     pub answer: Answer,
     pub geo: Geo,

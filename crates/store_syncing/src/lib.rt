@@ -92,7 +92,7 @@ fn after_sync(s: Opened) -> Opened
 }
 
 // The session after a sync, and how many sectors it wrote.
-#[derive(Drop)]
+#[derive(Clone, Copy)]
 pub struct Synced {
     pub session: Opened,
     pub written: u32,

@@ -33,7 +33,7 @@ use Rattle.session.proofs.FitLaws.{fit-inv}
 use Rattle.session.proofs.FitMeansProved.{fits-mean}
 use Rattle.store.specs.Edit.{put_place, place_in, remove_plan, remove}
 use Rattle.store.specs.Look.{get}
-use Rattle.promises_answers.specs.Numbers.{row, Exactly, Shows, NoFile, NoEntry, TooLong, bad_name, remove_rows, get_rows_lem, read_get_rows}
+use Rattle.promises_answers.specs.Numbers.{row, Exactly, Shows, NoFile, NoEntry, TooLong, bad_name, remove_rows, get_rows, read_get_rows}
 use Rattle.promises_answers.proofs.RowLaws.{Follows, exactly, number_of, ended-number, done-row, guard-row, need-row, means-row, not-row, clash, closed-row, open_row}
 use Rattle.promises_answers.proofs.Numbers.NumbersWhole.{reading}
 
@@ -82,9 +82,9 @@ module _ (g : Geo) (tab img n : List ℕ) where
   unfolding get_end refused done
   get-number out p = ended-number (λ (r : Got). r.answer.number) _ _ (λ k. refl) (λ j a. refl) p
 
-pub of-get : (s : Session) (work n out : List ℕ) → Exactly (get s work n out).answer.number (get_rows_lem s work n out)
+pub of-get : (s : Session) (work n out : List ℕ) → Exactly (get s work n out).answer.number (get_rows s work n out)
 unfolding get refused number_of
-of-get Closed work n out = exactly {rows = get_rows_lem Closed work n out} {p = refuse 4} refl closed-row
+of-get Closed work n out = exactly {rows = get_rows Closed work n out} {p = refuse 4} refl closed-row
 of-get (Open s) work n out =
     exactly (get-number s.geo (present_table s (sec work)) work n out _)
     (open_row s (means-row 2 (fits s work) _ _ (fits-mean s work)

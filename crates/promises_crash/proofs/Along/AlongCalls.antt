@@ -18,7 +18,7 @@ use Rattle.store.specs.Sync.{land, sync_done, sync, unmount}
 use Rattle.store.proofs.Plans.{both-num, mount-num}
 use Rattle.promises_answers.specs.PlainList.{Item, shown_by, shown_in}
 use Rattle.promises_answers.proofs.AnswersProved.{put-answers, remove-answers}
-use Rattle.promises_crash.specs.History.{Pending, World, Call, make_c, mount_c, sync_c, unmount_c, put_c, remove_c, land_c, get_c, list_c, free_c, after_cut, by_number_lem, end_open, before, edited, stepped, after, Reach}
+use Rattle.promises_crash.specs.History.{Pending, World, Call, make_c, mount_c, sync_c, unmount_c, put_c, remove_c, land_c, get_c, list_c, free_c, after_cut, by_number, end_open, before, edited, stepped, after, Reach}
 use Rattle.promises_crash.proofs.Inv.{mk}
 use Rattle.promises_crash.proofs.Demand.{card-possible}
 use Rattle.store.specs.Inner.{FitOf}
@@ -48,8 +48,8 @@ world-tells w r = record { reading = reads_as w.card w.last (card-possible w r).
 -- ---- a call
 
 -- a call that goes on, or is refused
-by_number_lem : (c : Call) (k : ℕ) (p : Plain) (next v : World) → (k ≡ 0 → Does c p (plain_of next)) → plain_of v ≡ refused_by c p → Moves c k p (plain_of (by_number_lem k next v))
-unfolding by_number_lem
+by_number_lem : (c : Call) (k : ℕ) (p : Plain) (next v : World) → (k ≡ 0 → Does c p (plain_of next)) → plain_of v ≡ refused_by c p → Moves c k p (plain_of (by_number k next v))
+unfolding by_number
 by_number_lem c zero p next v x y = x refl
 by_number_lem c (suc k) p next v x y = y
 

@@ -18,7 +18,7 @@ use Rattle.counts.proofs.GeoLaws.{Limits, limits}
 use Rattle.counts.specs.Stamps.{max_tx}
 use Rattle.session.specs.declared.Opened.{Opened}
 use Rattle.session.proofs.FitLaws.{Fit}
-use Rattle.store.specs.Steps.{set_word, table_sector, sync_steps, all_steps, sync_work, at_top_lem}
+use Rattle.store.specs.Steps.{set_word, table_sector, sync_steps, all_steps, sync_work, at_top}
 use Rattle.store.proofs.SyncFewer.{sync-same-card}
 use Rattle.store.proofs.StepLaws.{word-length, word-other, word-table, table-sector}
 use Rattle.store.specs.Sync.{grown, sync_done}
@@ -119,12 +119,12 @@ module _ (s : Opened) (card work : List ℕ) (l : length card ≡ 512 * s.geo.s)
 
   -- ---- sync
 
-  pub below : s.t.0 < max_tx → at_top_lem s ≡ false
-  unfolding at_top_lem
+  pub below : s.t.0 < max_tx → at_top s ≡ false
+  unfolding at_top
   below h = ne_eqb s.t.0 max_tx (omega arith)
 
-  pub at_top_lem : s.t.0 ≡ max_tx → at_top_lem s ≡ true
-  unfolding at_top_lem
+  pub at_top_lem : s.t.0 ≡ max_tx → at_top s ≡ true
+  unfolding at_top
   at_top_lem h = eq-eqb s.t.0 max_tx h
 
   pub synced : BothSynced s card work (sec work 0) (apply_steps (sync_steps s card work []) card) new_work

@@ -15,7 +15,7 @@ use Rattle.counts.proofs.GeoLaws.{head_of, table_same}
 use Rattle.counts.specs.Stamps.{max_tx}
 use Rattle.session.specs.declared.Opened.{Opened}
 use Rattle.session.proofs.FitLaws.{Fit, head-inv}
-use Rattle.store.specs.Steps.{set_count, set_word, table_sector, sync_steps, unmount_steps, unmount_steps_by, down_steps, sync_work, unmount_work, unmount_work_by, down_work, at_top_lem}
+use Rattle.store.specs.Steps.{set_count, set_word, table_sector, sync_steps, unmount_steps, unmount_steps_by, down_steps, sync_work, unmount_work, unmount_work_by, down_work, at_top}
 use Rattle.store.proofs.StepLaws.{count-length, count-other, count-here, count-count, word-table}
 use Rattle.store.specs.Sync.{unmount_done}
 use Rattle.promises_crash.proofs.Play.{copied}
@@ -86,7 +86,7 @@ module _ (s : Opened) (card work : List ℕ) (l : length card ≡ 512 * s.geo.s)
       there = set_there g.s k (sec back 0) 0 w (pos s card work l F) wd
 
   -- the steps of an unmount that syncs, and its working image
-  unmount-is : {b : Bool} → s.worn ≡ false → at_top_lem s ≡ b → (unmount_steps s card work ≡ sync_steps s card work (down_steps b s new_work)) × (unmount_work s work ≡ down_work b s new_work)
+  unmount-is : {b : Bool} → s.worn ≡ false → at_top s ≡ b → (unmount_steps s card work ≡ sync_steps s card work (down_steps b s new_work)) × (unmount_work s work ≡ down_work b s new_work)
   unfolding unmount_steps unmount_steps_by unmount_work unmount_work_by sync_work
   unmount-is live q = (
     ap (λ (x : Bool). unmount_steps_by x s card work) live ∙ ap (λ (x : Bool). sync_steps s card work (down_steps x s new_work)) q,

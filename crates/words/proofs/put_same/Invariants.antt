@@ -1,0 +1,16 @@
+-- The loop's invariant: the first i bytes are x. Assumes nothing.
+use mathlib.Core.Path.{◌≡◌, sym, ap, ◌∙◌}
+use Prim.Native.Nat.{◌-◌, ◌≤◌}
+use native.Mathlib.Numerals.{add-one}
+use native.Mathlib.Omega.{arith}
+use lib.ListN.{length, replicate}
+use Rattle.words.specs.Lists.{splice}
+use Rattle.words.proofs.SpliceLaws.{splice-length, splice-nil}
+use Rattle.words.proofs.SameLaws.{same_more}
+use Rattle.words.proofs.put_same.Given as goal
+
+abbrev pub invariant-loop-i : goal.invariant-loop-i
+invariant-loop-i l = (l.i ≤ l.n) × (l.s ≡ splice l.initial.s l.at (replicate l.i l.x))
+
+abbrev pub decreases-loop-i : goal.decreases-loop-i
+decreases-loop-i l = l.n - l.i
