@@ -1,4 +1,6 @@
 // The directory: the entries in order, tests over all of them, and the entry that a call finds.
+#![tactic(auto)]
+
 ghost use Rattle.std.specs.Prelude.{◌≡◌, ◌*◌, ◌<◌};
 ghost use Rattle.counts.specs.Inner.{InLimits, LaidOut};
 ghost use Rattle.entries.specs.Entries.{entry_bytes};

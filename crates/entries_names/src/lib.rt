@@ -1,4 +1,6 @@
 // Names: when one is good, and when an entry has it.
+#![tactic(auto)]
+
 ghost use Rattle.std.specs.Prelude.{◌≡◌, ◌+◌, ◌*◌, ◌%◌, min, length};
 ghost use Rattle.words.specs.Lists.{every, eq_list};
 ghost use Rattle.words.specs.Bytes.{word_at};

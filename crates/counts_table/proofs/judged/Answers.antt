@@ -13,4 +13,4 @@ pub returns-then-n-c : goal.returns-then-n-c
 returns-then-n-c c = (omega (arith, c.crash_counts-n.ensures), inl c.crash_counts-n.ensures)
 
 pub returns : goal.returns
-returns c = (omega (arith, c.crash_counts-n.ensures, c.if-n-c.false), inr (not-false _ c.if-not-past.false, refl))
+returns c = (omega (arith, c.crash_counts-n.ensures, c.if-n-c.false), inr (c.if-not-past.false, refl))

@@ -5,12 +5,12 @@ use Rattle.entries.proofs.becomes_old.Goals as goal
 
 pub returns-in-Own : goal.returns-in-Own
 unfolding becomes_old
-returns-in-Own c = rw c.enum_told-1.given.1
+returns-in-Own c = rw c.in-Own.is
 
 pub returns-in-Alive : goal.returns-in-Alive
 unfolding becomes_old
-returns-in-Alive c = rw c.enum_told-in-Alive-1.given.1
+returns-in-Alive c = rw c.in-Alive.is
 
 pub returns-in-Dead : goal.returns-in-Dead
 unfolding becomes_old
-returns-in-Dead c = rw c.enum_told-in-Dead-1.given.1
+returns-in-Dead c = rw c.in-Dead.is

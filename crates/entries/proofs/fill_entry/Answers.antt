@@ -10,26 +10,15 @@ use Rattle.words.proofs.SpliceLaws.{Put, put_then, put_whole}
 use Rattle.words.proofs.WordLaws.{word_bytes-length}
 use Rattle.entries.proofs.fill_entry.Goals as goal
 
-pub put_bytes-requires : goal.put_bytes-requires
-put_bytes-requires c = let l : length c.args.e.name ≡ 32 = sym (slice-aggregate-put-bytes c) in omega arith
-
 pub returns : goal.returns
 unfolding entry_bytes
 returns c =
-    let c₇ = c in
-    let c₆ = c₇ in
-    let c₅ = c₆ in
-    let c₄ = c₅ in
-    let c₃ = c₄ in
-    let c₂ = c₃ in
-    let c₁ = c₂ in
-    let st = c₁ in
-    let l : length st.args.e.name ≡ 32 = sym (slice-aggregate-put-bytes c₄) in
-    let p₁ : Put st.args.p.now 0 4 c₁.put_word.new.0 (word_bytes st.args.e.stamp.cc.0) = record { done = c₁.put_word.ensures; size = word_bytes-length _ } in
-    let p₂ = put_then _ _ 4 p₁ c₂.put_word-2.ensures (word_bytes-length _) in
-    let p₃ = put_then _ _ 4 p₂ c₃.put_word-3.ensures (word_bytes-length _) in
-    let p₄ = put_then _ _ 32 p₃ c₄.put_bytes.ensures l in
-    let p₅ = put_then _ _ 16 p₄ c₅.put_version.ensures (version_bytes-length _) in
-    let p₆ = put_then _ _ 16 p₅ c₆.put_version-2.ensures (version_bytes-length _) in
-    let p₇ = put_then _ _ 52 p₆ c₇.put_bytes-2.ensures refl in
-    put_whole p₇ st.requires
+    let l : length c.args.e.name ≡ 32 = omega arith in
+    let p₁ : Put c.args.p.now 0 4 c.put_word.new.s (word_bytes c.args.e.stamp.cc.0) = record { done = c.put_word.ensures; size = word_bytes-length _ } in
+    let p₂ = put_then _ _ 4 p₁ c.put_word-2.ensures (word_bytes-length _) in
+    let p₃ = put_then _ _ 4 p₂ c.put_word-3.ensures (word_bytes-length _) in
+    let p₄ = put_then _ _ 32 p₃ c.put_bytes.ensures l in
+    let p₅ = put_then _ _ 16 p₄ c.put_version.ensures (version_bytes-length _) in
+    let p₆ = put_then _ _ 16 p₅ c.put_version-2.ensures (version_bytes-length _) in
+    let p₇ = put_then _ _ 52 p₆ c.put_bytes-2.ensures refl in
+    put_whole p₇ c.requires
