@@ -8,11 +8,6 @@ use Rattle.apages.proofs.Scan.{run_up_to-le, Seen, seen_start, seen_more, seen-f
 use Rattle.apages.proofs.LowestLaws.{lowest-within}
 use Rattle.apages.proofs.run_within.Goals as goal
 
--- the call's result, as the definition has it
-grew : (c : tie.After-grow invariant-loop decreases-loop) → c.grow.result
-    ≡ run_up_to (busy_at c.before.before.before.before.before.before.before.args.p.now c.before.before.before.before.before.before.before.args.q.now c.before.before.before.before.loop.at) c.before.before.before.before.loop.have c.before.before.next-alike.result
-grew c = c.grow.ensures ∙ ap (λ (b : ℕ). run_up_to b c.before.before.before.before.loop.have c.before.before.next-alike.result) c.before.busy.ensures
-
 pub loop-at-init : goal.loop-at-init
 loop-at-init c = seen_start _ _ _ c.requires.2
 
@@ -27,10 +22,10 @@ pub returns-then-have-k : goal.returns-then-have-k
 returns-then-have-k c =
     let n = c.next_alike-n in
     lowest-within _ c.args.p.now c.args.q.now c.requires.2 (sym c.requires.1) c.requires.0 _ _ _ c.requires.3
-    (seen-found c.loop-at.invariant _ n.ensures.2 _ _ (grew c) c.if-have-k.true n.ensures.1)
+    (seen-found c.loop-at.invariant _ n.ensures.2 _ _ (c.grow-have.ensures ∙ ap (λ (b : ℕ). run_up_to b c.loop-at.have c.next_alike-n.result) c.busy.ensures) c.if-have-k.true n.ensures.1)
 
 pub loop-at-preserved : goal.loop-at-preserved
-loop-at-preserved c = seen_more c.loop-at.invariant _ c.next_alike-n.ensures.2 _ (grew c) c.if-have-k.false
+loop-at-preserved c = seen_more c.loop-at.invariant _ c.next_alike-n.ensures.2 _ (c.grow-have.ensures ∙ ap (λ (b : ℕ). run_up_to b c.loop-at.have c.next_alike-n.result) c.busy.ensures) c.if-have-k.false
 
 pub returns : goal.returns
 returns c =

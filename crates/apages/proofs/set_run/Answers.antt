@@ -16,7 +16,7 @@ pub loop-i-preserved : goal.loop-i-preserved
 loop-i-preserved c =
     let put = c.put_next-i in
     let inv = c.loop-i.invariant in
-    (omega (arith, put.ensures.2), run-next _ _ _ _ _ inv.1 put.ensures.0, put.auto.0 ∙ inv.2)
+    (omega (arith, put.ensures.2), run-next _ _ _ _ _ inv.1 put.ensures.0, put.auto.p ∙ inv.2)
 
 pub returns : goal.returns
 returns c = run-done _ _ _ _ _ c.loop-i.invariant.1 (omega arith)
