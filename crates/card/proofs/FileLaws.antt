@@ -65,6 +65,7 @@ pub held-data : {g : Geo} {fs : List Line} → Within g fs → (i : ℕ) → Hol
 held-data {g} w i h = go w h.there
   where
     go : {fs : List Line} → Within g fs → Memᴰ h.file fs → (g_f g ≤ i) × (i < g.s)
+    go none m = elim m [ ]
     go (more {f = f} s w) (Memᴰ.head e) =
         let r : RunIs g h.file.run = rw e s in
         let (lo, hi) = (holds-run h.file.run i).0 h.held in
@@ -81,6 +82,7 @@ cover-append (f ∷ xs) ys i = omega (arith, cover-append xs ys i)
 
 member-cover : (f : Line) (i : ℕ) (fs : List Line) → Memᴰ f fs → FileHolds f.run i → 1 ≤ cover fs i
 unfolding cover
+member-cover f i [] m h = elim m [ ]
 member-cover f i (x ∷ fs) (Memᴰ.head e) h = rw (← e) (omega (arith, (holds-count f.run i).0 h))
 member-cover f i (x ∷ fs) (Memᴰ.tail m) h = omega (arith, member-cover f i fs m h)
 

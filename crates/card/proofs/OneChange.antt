@@ -80,22 +80,20 @@ module _ (g : Geo) (L : Limits g) (one : g_p g ≡ 1) (tab : List ℕ) (own : St
       let r' : b % 4096 ≡ b = omega arith in
       rw (d, r, r') at (runs-joined g L tab own c_n t_m hc hw a k 1 b m 0 img P (omega (arith, one)) (omega arith))
 
+  run_no : (b v : ℕ) (x : List ℕ) → change_run g present own b 0 v x ≡ x
+  unfolding change_run
+  run_no b v x = refl
+
   runs-today : (a k b m : ℕ) → a + k ≤ 4096 → b + m ≤ 4096
       → change_run g present own b m 0 (change_run g present own a k 1 img) ≡ today_change g present own a k b m img
   unfolding today_change
-  runs-today a zero b zero ha hb = unfold change_run in refl
+  runs-today a zero b zero ha hb = run_no b 0 (change_run g present own a 0 1 img) ∙ run_no a 1 img
   runs-today a (suc k) b zero ha hb =
       let o : is_zero (suc k + 0) ≡ false = ne_eqb (suc k + 0) 0 (λ e. omega arith) in
-      rw o (first ∙ single a k 1 ha ∙ alike (λ p. set_run p a (suc k) 1) ∙ (unfold old set_run in refl))
-    where
-      first : change_run g present own b 0 0 (change_run g present own a (suc k) 1 img) ≡ change_run g present own a (suc k) 1 img
-      first = unfold change_run in refl
+      rw o (run_no b 0 (change_run g present own a (suc k) 1 img) ∙ single a k 1 ha ∙ alike (λ p. set_run p a (suc k) 1) ∙ (unfold old set_run in refl))
   runs-today a zero b (suc m) ha hb =
       let o : is_zero (0 + suc m) ≡ false = ne_eqb (0 + suc m) 0 (λ e. omega arith) in
-      rw o (first ∙ single b m 0 hb ∙ alike (λ p. set_run p b (suc m) 0) ∙ (unfold old set_run in refl))
-    where
-      first : change_run g present own b (suc m) 0 (change_run g present own a 0 1 img) ≡ change_run g present own b (suc m) 0 img
-      first = unfold change_run in refl
+      rw o (ap (λ (x : List ℕ). change_run g present own b (suc m) 0 x) (run_no a 1 img) ∙ single b m 0 hb ∙ alike (λ p. set_run p b (suc m) 0) ∙ (unfold old set_run in refl))
   runs-today a (suc k) b (suc m) ha hb =
       let o : is_zero (suc k + suc m) ≡ false = ne_eqb (suc k + suc m) 0 (λ e. omega arith) in
       rw o (double a k b m ha hb ∙ alike (λ p. set_run (set_run p a (suc k) 1) b (suc m) 0) ∙ (unfold old in refl))

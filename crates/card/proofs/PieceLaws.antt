@@ -26,6 +26,7 @@ out-run a n i o = ⊎_elim (λ w. w.1) (⊎_elim (λ w. absurd (o (w.0, w.1))) (
 -- a piece that holds a sector is counted
 piece-counts : (q : Piece) (n : ℕ) (qs : List Piece) → Memᴰ q qs → InPiece q n → 1 ≤ in_pieces qs n
 unfolding in_pieces
+piece-counts q n [] m h = elim m [ ]
 piece-counts q n (x ∷ qs) (Memᴰ.head e) h = rw (← e) (omega (arith, in-run q.at q.count n h.0 h.1))
 piece-counts q n (x ∷ qs) (Memᴰ.tail m) h = omega (arith, piece-counts q n qs m h)
 

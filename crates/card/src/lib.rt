@@ -1,4 +1,6 @@
 // A whole card: its geometry, the files it shows, when it is sound, making one and reading one.
+#![tactic(auto)]
+
 ghost use Rattle.std.specs.Prelude.{◌≡◌};
 ghost use Rattle.card.specs.Plan.{refused, done};
 

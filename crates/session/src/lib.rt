@@ -1,4 +1,6 @@
 // A session: its two views of the working image, and when it fits one.
+#![tactic(auto)]
+
 ghost use Rattle.std.specs.Prelude.{◌≡◌};
 ghost use Rattle.counts.specs.Inner.{InLimits};
 ghost use Rattle.session.specs.Views.{own_stamp, present_view};

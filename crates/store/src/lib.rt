@@ -1,4 +1,6 @@
 // The calls of a session: mount, put, remove, get, list, free, land, sync and unmount.
+#![tactic(auto)]
+
 use card::Answer;
 use session::Session;
 
