@@ -1,4 +1,6 @@
 // What crosses to a host: a session as 24 bytes, what reading a card gives as 16, and what free gives as 8.
+#![tactic(auto)]
+
 ghost use Rattle.std.specs.Prelude.{◌≡◌};
 ghost use Rattle.host_crossing.specs.Crossing.{opened_of, session_of, decoded, state_of, opened_bytes, encoded, report_bytes, room_bytes, roomed, kept_by};
 
