@@ -1,4 +1,6 @@
 // Searches of the directory: the entry of a name, and the lowest that shows no file.
+#![tactic(auto)]
+
 ghost use Rattle.std.specs.Prelude.{◌≡◌, length};
 ghost use Rattle.words.specs.Lists.{first_at};
 ghost use Rattle.sectors.specs.Sectors.{sec};

@@ -1,4 +1,6 @@
 // When names, versions and entries keep their rules.
+#![tactic(auto)]
+
 ghost use Rattle.std.specs.Prelude.{◌≡◌, ◌&&◌, ◌||◌, length};
 ghost use Rattle.words.specs.Bytes.{word_at};
 ghost use Rattle.sectors.specs.Sectors.{sec};

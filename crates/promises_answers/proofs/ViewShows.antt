@@ -48,11 +48,13 @@ all-wide g img ok l = every-all is_wide (entries_of g (sec img)) [] (λ j h. eq-
 
 all-good : (l : List Item) → every (λ x. good_name x.name) l ≡ true → (x : Item) → Memᴰ x l → GoodName x.name
 unfolding every
+all-good [] h x m = elim m [ ]
 all-good (y ∷ l) h x (Memᴰ.head e) = rw e ((name-means y.name).0 (both (good_name y.name) (every (λ x. good_name x.name) l) h).0)
 all-good (y ∷ l) h x (Memᴰ.tail m) = all-good l (both (good_name y.name) (every (λ x. good_name x.name) l) h).1 x m
 
 differs : (y : Item) (l : List Item) → every (differ y) l ≡ true → (x : Item) → Memᴰ x l → y.name ≢ x.name
 unfolding every
+differs y [] h x m q = elim m [ ]
 differs y (z ∷ l) h x (Memᴰ.head e) q =
     let d : not (eq_list y.name z.name) ≡ true = (both (differ y z) (every (differ y) l) h).0 in
     let s : y.name ≡ z.name = q ∙ ap (λ (i : Item). i.name) e in

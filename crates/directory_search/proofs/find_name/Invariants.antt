@@ -1,0 +1,20 @@
+-- `directory_search::find_name` meets its contract: in the loop the answer is that for what is left. Assumes nothing.
+use mathlib.Core.Path.{◌≡◌, refl}
+use mathlib.Core.List.{[]}
+use Prim.Native.Nat.{◌-◌, ◌≤◌}
+use native.Mathlib.Omega.{arith}
+use borrow.Author.Rules.{rules}
+use lib.ListN.{drop}
+use Rattle.counts.specs.Stamps.{table_in}
+use Rattle.directory.specs.Directory.{entries_of, named}
+use Rattle.directory.proofs.DirectoryLaws.{entries-lt, entries-le, entry-test}
+use Rattle.sectors.specs.Sectors.{sec}
+use Rattle.words.proofs.EveryLaws.{first-stop, first-go, first-end}
+use Rattle.words.specs.Lists.{first_at}
+use Rattle.directory_search.proofs.find_name.Given as goal
+
+abbrev pub invariant-loop-j : goal.invariant-loop-j
+invariant-loop-j l = (l.j ≤ l.n) × (first_at (named (table_in l.g l.v (sec l.card)) (table_in l.g l.w (sec l.card)) l.name) 0 (entries_of l.g (sec l.card)) ≡ first_at (named (table_in l.g l.v (sec l.card)) (table_in l.g l.w (sec l.card)) l.name) l.j (drop l.j (entries_of l.g (sec l.card))))
+
+abbrev pub decreases-loop-j : goal.decreases-loop-j
+decreases-loop-j l = l.n - l.j
