@@ -1,4 +1,6 @@
 // Changing the bitmap: a run of bits of one page, under its group of the index.
+#![tactic(auto)]
+
 ghost use Rattle.std.specs.Prelude.{◌≡◌, ◌+◌, ◌*◌, ◌/◌, ◌%◌, ◌≤◌, ◌<◌, length};
 ghost use Rattle.apages.specs.Bits.{set_run};
 ghost use Rattle.apages.specs.Index.{changed_index, page_before, changed_run, change_run, change_bits};

@@ -1,4 +1,6 @@
 // The apage index: the codec of its groups, their rules, and the page that a group shows.
+#![tactic(auto)]
+
 ghost use Rattle.std.specs.Prelude.{◌≡◌, ◌+◌, ◌≤◌, ◌<◌, length};
 ghost use Rattle.words.specs.Lists.{splice};
 ghost use Rattle.apages.specs.Index.{index_of, group_bytes, pair_ok, group_ok, every_group, index_ok, shown_page};

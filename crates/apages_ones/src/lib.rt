@@ -1,4 +1,6 @@
 // The ones of a page: counted by words of 64 bits, and whether a run of bits is set.
+#![tactic(auto)]
+
 ghost use Rattle.std.specs.Prelude.{◌≡◌, true, ◌+◌, ◌*◌, ◌%◌, ◌≤◌, ◌<◌, length};
 ghost use Rattle.apages.specs.Bits.{bit_at, clear_bits};
 ghost use Rattle.apages.specs.Inner.{either};

@@ -1,4 +1,6 @@
 // The files that a view shows: their runs and lines, and get over one view.
+#![tactic(auto)]
+
 ghost use Rattle.std.specs.Prelude.{◌≡◌, [], ◌+◌, ◌*◌, ◌≤◌, ◌<◌, length, get_or};
 ghost use Rattle.words_sums.specs.Sums.{bit};
 ghost use Rattle.words.specs.Lists.{splice};

@@ -1,4 +1,6 @@
 // A fresh card: its sectors, built in buffers of zeros, and make.
+#![tactic(auto)]
+
 ghost use Rattle.std.specs.Prelude.{◌≡◌, ◌+◌, ◌*◌, ◌≤◌, ◌<◌, length};
 ghost use Rattle.sectors.specs.Sectors.{set_sec};
 ghost use Rattle.counts.specs.Geometry.{g_p};

@@ -27,6 +27,7 @@ mem-cases (Memᴰ.tail m) = inr m
 
 pub mem-one : {x y : List ℕ} → Memᴰ x (y ∷ []) → x ≡ y
 mem-one (Memᴰ.head e) = e
+mem-one (Memᴰ.tail m) = elim m [ ]
 
 pub written-cases : (i : ℕ) (s : List ℕ) (p : Pending) (j : ℕ) (x : List ℕ) → Memᴰ x (written i s p j) → ((j ≡ i) × (x ≡ s)) ⊎ Memᴰ x (p j)
 written-cases i s p j x m = go (ℕ_discrete j i)

@@ -19,6 +19,7 @@ use Rattle.promises_crash.proofs.ReadsBy.{reads-shape, reads-sound}
 -- a member is found under its name
 pub look-member : (x : Item) (l : List Item) → Memᴰ x l → NoTwoAlike l → lookup x.name l ≡ some x.content
 unfolding lookup
+look-member x [] m h = elim m [ ]
 look-member x (y ∷ l) (Memᴰ.head e) h = rw (sym e, eq_list-refl x.name)
 look-member x (y ∷ l) (Memᴰ.tail m) h = go (eq_list x.name y.name) refl (look-member x l m h.1)
   where

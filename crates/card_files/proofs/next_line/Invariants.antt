@@ -1,0 +1,19 @@
+-- The loop's invariant: the files from the first entry on are those that are left. Assumes nothing.
+use mathlib.Core.Path.{◌≡◌, refl}
+use Prim.Native.Nat.{◌-◌, ◌*◌}
+use native.Mathlib.Omega.{arith}
+use lib.ListN.{drop}
+use borrow.Author.Rules.{rules}
+use Rattle.sectors.specs.Sectors.{sec}
+use Rattle.counts.specs.Stamps.{table_in}
+use Rattle.directory.specs.Directory.{entries_of}
+use Rattle.directory.proofs.DirectoryLaws.{entries-lt, entries-le}
+use Rattle.card.specs.Files.{files_of, run_at}
+use Rattle.card_files.proofs.NextLaws.{next-stop, next-go, next-end}
+use Rattle.card_files.proofs.next_line.Given as goal
+
+abbrev pub invariant-loop-j : goal.invariant-loop-j
+invariant-loop-j l = files_of (table_in l.g l.v (sec l.card)) (drop l.from (entries_of l.g (sec l.card))) ≡ files_of (table_in l.g l.v (sec l.card)) (drop l.j (entries_of l.g (sec l.card)))
+
+abbrev pub decreases-loop-j : goal.decreases-loop-j
+decreases-loop-j l = 4 * l.g.d - l.j

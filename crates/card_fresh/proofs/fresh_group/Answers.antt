@@ -1,0 +1,15 @@
+-- Stamp 0, 0, and the two sectors of its pair. Assumes nothing.
+use mathlib.Core.Path.{ap, ◌∙◌}
+use Prim.Native.Nat.{ℕ}
+use borrow.Author.Rules.{rules}
+use Rattle.counts.specs.declared.Stamp.{Stamp}
+use Rattle.counts.specs.Geometry.{pair_low}
+use Rattle.card.specs.Make.{fresh_group}
+use Rattle.card_fresh.proofs.fresh_group.Goals as goal
+
+pub returns : goal.returns
+unfolding fresh_group
+returns c =
+    let zero : Stamp = record { cc = record { 0 = 0 }; txc = record { 0 = 0 } } in
+    ap (λ (x : ℕ). record { stamp = zero; a = record { 0 = x }; b = c.pair_high-b.result }) c.pair_low-a.ensures
+    ∙ ap (λ (x : ℕ). record { stamp = zero; a = record { 0 = pair_low c.args.g c.args.p }; b = record { 0 = x } }) c.pair_high-b.ensures

@@ -1,0 +1,27 @@
+-- The loop's invariant: the groups before p are written. Assumes nothing.
+use mathlib.Core.Path.{◌≡◌, refl}
+use Prim.Native.Nat.{◌-◌, ◌≤◌}
+use native.Mathlib.Omega.{arith}
+use borrow.Author.Rules.{rules}
+use lib.ListN.{length}
+use Rattle.words.specs.Lists.{pad}
+use Rattle.counts.specs.Geometry.{g_p}
+use Rattle.card.specs.Make.{fresh_groups, fresh_index}
+use Rattle.card.proofs.MakeLaws.{group-turn}
+use Rattle.card_fresh.proofs.fresh_index.Goals as goal
+
+pub loop-p-init : goal.loop-p-init
+unfolding pad fresh_groups
+loop-p-init c = (omega arith, refl, refl)
+
+pub loop-p-preserved : goal.loop-p-preserved
+loop-p-preserved c =
+    let l = c.loop-p in
+    let e = c.fresh_group-x.ensures in
+    (omega arith, omega (arith, c.put_group.auto.s), group-turn _ _ l.invariant.1 (omega arith) l.invariant.2 (rw e at c.put_group.ensures))
+
+pub returns : goal.returns
+unfolding fresh_index
+returns c =
+    let l = c.loop-p in
+    let e : g_p c.args.g ≡ l.p = omega arith in rw e l.invariant.2
