@@ -1,4 +1,6 @@
 // The bitmap's rule, tested with no map: from the ones of the bitmap's words and the files' own runs.
+#![tactic(auto)]
+
 ghost use Rattle.std.specs.Prelude.{◌≡◌, ◌+◌, ◌*◌, ◌/◌, ◌%◌, ◌≤◌, ◌<◌, length, drop};
 ghost use Rattle.words.specs.Lists.{every, pairwise};
 ghost use Rattle.sectors.specs.Sectors.{sec};
