@@ -1,0 +1,12 @@
+-- The geometry is the one that the card stores. Assumes nothing.
+use Rattle.card.proofs.SoundTests.{shape-length, shape-laid, sound-of}
+use Rattle.card_sound.proofs.sound.Goals as goal
+
+pub geo_of-g-requires : goal.geo_of-g-requires
+geo_of-g-requires c = shape-length _ c.requires
+
+pub sound_in-requires : goal.sound_in-requires
+sound_in-requires c = shape-laid _ _ c.geo_of-g.ensures c.requires
+
+pub returns : goal.returns
+returns c = sound-of _ _ c.geo_of-g.ensures c.sound_in.ensures
