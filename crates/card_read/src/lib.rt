@@ -1,4 +1,6 @@
 // Reading a card without a session: the report, the line at a position, and get.
+#![tactic(auto)]
+
 ghost use Rattle.std.specs.Prelude.{◌≡◌, true};
 ghost use Rattle.card.specs.Sound.{shape_ok, sound};
 ghost use Rattle.card.specs.Reading.{read, read_line, read_get};

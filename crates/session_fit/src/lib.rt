@@ -1,4 +1,6 @@
 // The fit test: whether a session fits a working image.
+#![tactic(auto)]
+
 ghost use Rattle.std.specs.Prelude.{◌≡◌};
 ghost use Rattle.sectors.specs.Sectors.{sec};
 ghost use Rattle.counts.specs.Inner.{LaidOut};

@@ -1,5 +1,7 @@
 // Tests of a call in a session. Whether it meets a session that does not fit, which it answers with 2, is the one test that a public call makes before its
 // inner call; the length of the card and sync's 1 and 9 are tests of the inner calls, and of the functions that stop inside a call.
+#![tactic(auto)]
+
 ghost use Rattle.std.specs.Prelude.{◌≡◌, ◌*◌, eqb, length};
 ghost use Rattle.store.specs.Mount.{plan_number};
 ghost use Rattle.store.specs.Inner.{fitting_plan, unfit, unfit_on};

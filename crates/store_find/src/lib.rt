@@ -1,4 +1,6 @@
 // What put finds in a session's two views: an entry and a run of sectors.
+#![tactic(auto)]
+
 ghost use Rattle.std.specs.Prelude.{◌≡◌, true, ◌+◌, ◌-◌, ◌*◌, ◌/◌, min, ◌≤◌, ◌<◌, length};
 ghost use Rattle.words.specs.declared.Found.TheVariants.{Nowhere};
 ghost use Rattle.sectors.specs.Sectors.{sec};

@@ -1,0 +1,26 @@
+-- Both tests passed, so the report is of the files and the page shown. Assumes nothing.
+use native.Mathlib.Omega.{arith}
+use Rattle.card.proofs.SoundTests.{shape-length, shape-laid, shape-limits, sound-pair}
+use Rattle.card.proofs.ReadLaws.{read_done}
+use Rattle.card_read.proofs.read_in.Goals as goal
+
+pub geo_of-g-requires : goal.geo_of-g-requires
+geo_of-g-requires c = shape-length _ c.requires.0
+
+pub as_is-v-requires : goal.as_is-v-requires
+as_is-v-requires c = shape-limits _ _ c.geo_of-g.ensures c.requires.0
+
+pub word_at-requires : goal.word_at-requires
+word_at-requires c = let l = shape-length _ c.requires.0 in omega arith
+
+pub crash_counts-n-requires : goal.crash_counts-n-requires
+crash_counts-n-requires c = (shape-limits _ _ c.geo_of-g.ensures c.requires.0).t
+
+pub file_count-files-requires : goal.file_count-files-requires
+file_count-files-requires c = shape-laid _ _ c.geo_of-g.ensures c.requires.0
+
+pub clear_in-free-requires : goal.clear_in-free-requires
+clear_in-free-requires c = (shape-laid _ _ c.geo_of-g.ensures c.requires.0, sound-pair _ _ c.geo_of-g.ensures c.as_is-v.ensures c.requires.0 c.requires.1)
+
+pub returns : goal.returns
+returns c = read_done _ c.requires.0 c.requires.1 _ _ c.geo_of-g.ensures c.as_is-v.ensures c.word_at.ensures c.crash_counts-n.ensures c.file_count-files.ensures c.clear_in-free.ensures
