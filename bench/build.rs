@@ -1,5 +1,5 @@
-//! Links the functions for a host, built beforehand from the crates `host`,
-//! `lists` and `fitting`.
+//! Links the functions for a host, built beforehand by `bench/archives` from the
+//! crates `host_c`, `lists_c` and `fitting_c`.
 
 use std::path::Path;
 use std::process::exit;
@@ -20,14 +20,10 @@ fn main() {
         }
     }
     if !missing.is_empty() {
-        let commands: Vec<String> = missing
-            .iter()
-            .map(|library| format!("rt staticlib {library}"))
-            .collect();
         eprintln!(
-            "the archives of {} are not in target/staticlib; make them first, in the repository's folder: {}",
+            "the archives of {} are not in target/staticlib; make them first, in the repository's folder: bench/archives {}",
             missing.join(" and "),
-            commands.join("; ")
+            missing.join(" ")
         );
         exit(1);
     }

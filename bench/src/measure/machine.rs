@@ -31,7 +31,7 @@ pub fn processor() -> String {
 pub fn told() -> String {
     let cores = std::thread::available_parallelism().map_or(1, |n| n.get());
     let compiled = if cfg!(target_arch = "x86_64") {
-        "The archives are those of `rt staticlib`."
+        "The archives are those of `bench/archives`."
     } else {
         "The archives that a module links are for x86-64. Here the same proved modules were\n\
          compiled for this processor, by the kit's compiler at the same level (`bench/native`)."

@@ -1,0 +1,126 @@
+// The functions of crate fitting for C, by the same names: each hands its arguments on, asks what that function asks, and says what it says. Nothing sees
+// that a C caller knows what is asked: that an open session fits the working image it is lent (the head of crate fitting).
+#![tactic(auto)]
+
+ghost use Rattle.std.specs.Prelude.{◌≡◌};
+ghost use Rattle.store.specs.Edit.{put, put_at, remove};
+ghost use Rattle.store.specs.Inner.{FitOf};
+ghost use Rattle.store.specs.Look.{get, list, free};
+ghost use Rattle.store.specs.Sync.{land, sync, unmount};
+ghost use Rattle.host_crossing.specs.Crossing.{decoded, roomed, IsKept, IsKeptNumber};
+
+use card::{Answer, Line};
+
+// put: 4, 9, 5, 7, 8
+#[unsafe(no_mangle)]
+pub extern "C" fn fitting_put(
+    session: &[u8; 24],
+    work: &mut [u8],
+    name: &[u8],
+    content: &[u8],
+) -> u32
+    requires { FitOf (decoded session.now) work.old }
+    ensures { (result ≡ (put (decoded session.now) work.old name.now content.now).answer.number) × (work.new ≡ (put (decoded session.now) work.old name.now content.now).image) }
+{
+    fitting::fitting_put(session, work, name, content)
+}
+
+// Put with a goal sector: 4, 9, 5, 11, 7, 8
+#[unsafe(no_mangle)]
+pub extern "C" fn fitting_put_at(
+    session: &[u8; 24],
+    work: &mut [u8],
+    name: &[u8],
+    content: &[u8],
+    goal: u32,
+) -> u32
+    requires { FitOf (decoded session.now) work.old }
+    ensures { (result ≡ (put_at (decoded session.now) work.old name.now content.now goal).answer.number) × (work.new ≡ (put_at (decoded session.now) work.old name.now content.now goal).image) }
+{
+    fitting::fitting_put_at(session, work, name, content, goal)
+}
+
+// remove: 4, 9, 5, 6
+#[unsafe(no_mangle)]
+pub extern "C" fn fitting_remove(session: &[u8; 24], work: &mut [u8], name: &[u8]) -> u32
+    requires { FitOf (decoded session.now) work.old }
+    ensures { (result ≡ (remove (decoded session.now) work.old name.now).answer.number) × (work.new ≡ (remove (decoded session.now) work.old name.now).image) }
+{
+    fitting::fitting_remove(session, work, name)
+}
+
+// get: 4, 5, 6, 10; the file's bytes fill the first of the output and are counted, the rest stays.
+#[unsafe(no_mangle)]
+pub extern "C" fn fitting_get(
+    session: &[u8; 24],
+    work: &[u8],
+    name: &[u8],
+    out: &mut [u8],
+) -> Answer
+    requires { FitOf (decoded session.now) work.now }
+    ensures { (result ≡ (get (decoded session.now) work.now name.now out.old).answer) × (out.new ≡ (get (decoded session.now) work.now name.now out.old).out) }
+{
+    fitting::fitting_get(session, work, name, out)
+}
+
+// list: 4, 10; each line is a file's, the files are counted, and later lines stay.
+#[unsafe(no_mangle)]
+pub extern "C" fn fitting_list(session: &[u8; 24], work: &[u8], lines: &mut [Line]) -> Answer
+    requires { FitOf (decoded session.now) work.now }
+    ensures { (result ≡ (list (decoded session.now) work.now lines.old).answer) × (lines.new ≡ (list (decoded session.now) work.now lines.old).lines) }
+{
+    fitting::fitting_list(session, work, lines)
+}
+
+// free: 4; the words free and waiting, and on a refusal the output as lent.
+#[unsafe(no_mangle)]
+pub extern "C" fn fitting_free(session: &[u8; 24], work: &[u8], out: &mut [u8; 8]) -> u32
+    requires { FitOf (decoded session.now) work.now }
+    ensures { (result ≡ (free (decoded session.now) work.now).number) × (out.new ≡ roomed (free (decoded session.now) work.now) out.old) }
+{
+    fitting::fitting_free(session, work, out)
+}
+
+// land: 4, 1, 11
+#[unsafe(no_mangle)]
+pub extern "C" fn fitting_land(session: &[u8; 24], card: &mut [u8], work: &[u8], sector: u32) -> u32
+    requires { FitOf (decoded session.now) work.now }
+    ensures { (result ≡ (land (decoded session.now) card.old work.now sector).answer.number) × (card.new ≡ (land (decoded session.now) card.old work.now sector).image) }
+{
+    fitting::fitting_land(session, card, work, sector)
+}
+
+// sync: 4, 1, 9, with the number of sectors written; on a refusal the session's bytes stay as lent.
+#[unsafe(no_mangle)]
+pub extern "C" fn fitting_sync_count(
+    session: &mut [u8; 24],
+    card: &mut [u8],
+    work: &mut [u8],
+) -> Answer
+    requires { FitOf (decoded session.old) work.old }
+    ensures { IsKept result session.new card.new work.new session.old (sync (decoded session.old) card.old work.old) }
+{
+    fitting::fitting_sync_count(session, card, work)
+}
+
+// The same call, its number alone.
+#[unsafe(no_mangle)]
+pub extern "C" fn fitting_sync(session: &mut [u8; 24], card: &mut [u8], work: &mut [u8]) -> u32
+    requires { FitOf (decoded session.old) work.old }
+    ensures { IsKeptNumber result session.new card.new work.new session.old (sync (decoded session.old) card.old work.old) }
+{
+    fitting::fitting_sync(session, card, work)
+}
+
+// unmount: 4, 1, with the number of sectors its sync wrote; with 0 the session's bytes are the closed session, on a refusal as lent.
+#[unsafe(no_mangle)]
+pub extern "C" fn fitting_unmount(
+    session: &mut [u8; 24],
+    card: &mut [u8],
+    work: &mut [u8],
+) -> Answer
+    requires { FitOf (decoded session.old) work.old }
+    ensures { IsKept result session.new card.new work.new session.old (unmount (decoded session.old) card.old work.old) }
+{
+    fitting::fitting_unmount(session, card, work)
+}
