@@ -1,13 +1,15 @@
-//! What no contract can say is read off the source here: which buffers the theorem on tight contracts must list, and that mount, sync
-//! and unmount hand the card on in one line.
+//! What no contract can say is read off the source here: which buffers the theorem on tight contracts must list, that mount, sync and
+//! unmount hand the card on in one line, and that what C links is the functions themselves.
 
 use std::collections::BTreeMap;
 use std::fs;
 use std::path::{Path, PathBuf};
 
-/// A function of a crate: its parameters, whether it asks something of its caller, and the lines of its body.
+/// A function of a crate: its parameters, the lines from its result to its body, whether it asks something of its caller, and the lines
+/// of its body.
 struct Function {
     params: Vec<(String, String)>,
+    clauses: Vec<String>,
     public: bool,
     requires: bool,
     body: Vec<String>,
@@ -70,14 +72,13 @@ fn functions(name: &str) -> BTreeMap<String, Function> {
         let requires = lines[..start]
             .iter()
             .any(|l| l.trim_start().starts_with("requires"));
-        let body = lines[start + 1..]
-            .iter()
-            .map(|l| (*l).to_string())
-            .collect();
+        let owned = |part: &[&str]| part.iter().map(|l| (*l).to_string()).collect();
+        let (clauses, body) = (owned(&lines[..start]), owned(&lines[start + 1..]));
         found.insert(
             function,
             Function {
                 params,
+                clauses,
                 public: !before.is_empty(),
                 requires,
                 body,
@@ -87,18 +88,25 @@ fn functions(name: &str) -> BTreeMap<String, Function> {
     found
 }
 
-/// The place of the parameter that a path such as `.1 .1 .0` leads to.
+/// The place of the parameter that a path such as `s.1.1.0.now` leads to.
 fn place(path: &str) -> usize {
-    path.matches(".1").count()
+    let steps = path
+        .strip_prefix("s.")
+        .and_then(|p| p.strip_suffix("0.now"));
+    let steps = steps.unwrap_or_else(|| panic!("no path of a parameter: {path}"));
+    let count = steps.len() / 2;
+    assert_eq!(steps, "1.".repeat(count), "{path}");
+    count
 }
 
 /// The buffers that a line of tight/ lists as seen at the end: the paths behind the last `λ κs s.`.
 fn listed(line: &str) -> Vec<usize> {
     let seen = line.rsplit("λ κs s.").next().expect("what is seen");
     let mut places: Vec<usize> = seen
-        .split("now (s ")
-        .skip(1)
-        .map(|p| place(p.split(')').next().expect("a path ends")))
+        .split('∷')
+        .map(|p| p.trim().trim_end_matches(')'))
+        .filter(|p| *p != "[]")
+        .map(place)
         .collect();
     places.sort_unstable();
     places
@@ -115,7 +123,7 @@ fn tight_lists_every_buffer_of_every_public_function() {
             .filter(|l| l.trim_start().starts_with("pub ") && l.contains(" : Tight "))
         {
             let function = line
-                .split("·is.")
+                .split("_is.")
                 .next()
                 .and_then(|l| l.split(' ').last())
                 .expect("a function");
@@ -150,6 +158,23 @@ fn tight_lists_every_buffer_of_every_public_function() {
         public,
         "a function of tight/ is none of a public crate's"
     );
+}
+
+#[test]
+fn what_c_links_is_the_functions_themselves() {
+    for name in ["host", "lists", "fitting"] {
+        let mut inside = functions(name);
+        inside.retain(|_, f| f.public);
+        let exports = functions(&format!("{name}_c"));
+        assert!(inside.keys().eq(exports.keys()), "{name}");
+        for (function, f) in &exports {
+            let named: Vec<&str> = f.params.iter().map(|(n, _)| n.as_str()).collect();
+            let call = format!("    {name}::{function}({})", named.join(", "));
+            assert_eq!(f.body, [call], "{name}_c::{function}");
+            assert_eq!(f.params, inside[function].params, "{name}_c::{function}");
+            assert_eq!(f.clauses, inside[function].clauses, "{name}_c::{function}");
+        }
+    }
 }
 
 #[test]
