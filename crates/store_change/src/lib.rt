@@ -1,4 +1,6 @@
 // Put and remove in the working image, once every decision is made: content, entry, bitmap.
+#![tactic(auto)]
+
 ghost use Rattle.std.specs.Prelude.{◌≡◌, true, [], ◌+◌, ◌*◌, ◌≤◌, ◌<◌, length, get_or, replicate};
 ghost use Rattle.words.specs.Lists.{splice, first_at};
 ghost use Rattle.words.specs.declared.Found.TheVariants.{At};

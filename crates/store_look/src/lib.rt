@@ -2,6 +2,8 @@
 //
 // A call is two functions. The inner one, named `_fitting`, makes every test but 2 and requires instead that an open session fits; the public
 // one is that test and then the inner one.
+#![tactic(auto)]
+
 ghost use Rattle.std.specs.Prelude.{◌≡◌};
 ghost use Rattle.store.specs.Look.{get, line, no_figures, free};
 ghost use Rattle.store.specs.Inner.{FitOf};

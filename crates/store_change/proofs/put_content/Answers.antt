@@ -1,0 +1,7 @@
+-- The content and the zeros behind it are one splice. Assumes nothing.
+use borrow.Author.Rules.{rules}
+use Rattle.store.proofs.EditLaws.{content-put}
+use Rattle.store_change.proofs.put_content.Goals as goal
+
+pub returns : goal.returns
+returns c = content-put _ _ _ c.put_bytes.ensures c.put_zeros.ensures

@@ -1,0 +1,26 @@
+-- The loop's invariant: both figures of the pairs passed are counted. Assumes nothing.
+use mathlib.Core.Path.{◌≡◌, ap}
+use Prim.Native.Nat.{◌+◌, ◌-◌, ◌*◌, ◌≤◌}
+use native.Mathlib.Omega.{arith}
+use borrow.Author.Rules.{rules}
+use lib.ListN.{length}
+use Rattle.sectors.specs.Sectors.{sec}
+use Rattle.counts.specs.Geometry.{g_p}
+use Rattle.counts.specs.Stamps.{table_in}
+use Rattle.apages.specs.Free.{free_in, waiting_in}
+use Rattle.apages.proofs.FreeLaws.{free-empty, waiting-empty, free-over, waiting-over}
+use Rattle.apages.specs.Index.{page_in}
+use Rattle.card.proofs.ViewLaws.{page-room}
+use Rattle.store_figures.specs.declared.Figures.{Figures}
+use Rattle.store_figures.proofs.FigureLaws.{both-figures, left_in, page-most, figure-start, figure-turn, figure-end}
+use Rattle.store_figures.proofs.figures_in.Given as goal
+
+abbrev pub invariant-loop-p : goal.invariant-loop-p
+invariant-loop-p l =
+    let tp = table_in l.g l.v (sec l.img) in
+    let tc = table_in l.g l.w (sec l.img) in
+    (l.p ≤ g_p l.g) × (l.free + left_in free_in l.g tp tc l.img l.p ≡ free_in (page_in l.g tp (sec l.img)) (page_in l.g tc (sec l.img)))
+    × (l.waiting + left_in waiting_in l.g tp tc l.img l.p ≡ waiting_in (page_in l.g tp (sec l.img)) (page_in l.g tc (sec l.img))) × (l.free ≤ 4096 * l.p) × (l.waiting ≤ 4096 * l.p)
+
+abbrev pub decreases-loop-p : goal.decreases-loop-p
+decreases-loop-p l = g_p l.g - l.p
