@@ -2,6 +2,8 @@
 //
 // Land, sync and unmount are two functions each. The inner one, named `_fitting`, makes every test but 2 and requires instead that an open session
 // fits; the public one is that test and then the inner one. 1 comes before 2: a card of another length is not judged, and the inner call answers it.
+#![tactic(auto)]
+
 ghost use Rattle.std.specs.Prelude.{◌≡◌, true, ltb};
 ghost use Rattle.sectors.specs.Sectors.{sec};
 ghost use Rattle.counts.specs.Geometry.{g_n, geo_of, count_of};

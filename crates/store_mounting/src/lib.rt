@@ -1,4 +1,6 @@
 // The one write of mount, and the sectors that it and sync write.
+#![tactic(auto)]
+
 ghost use Rattle.std.specs.Prelude.{◌≡◌, ◌⊎◌, ◌+◌, ◌*◌, ◌≤◌, ◌<◌, length, take};
 ghost use Rattle.words.specs.Lists.{splice};
 ghost use Rattle.words.specs.Bytes.{word_bytes};

@@ -1,4 +1,6 @@
 // The writes of sync and unmount, one sector at a time and in their order.
+#![tactic(auto)]
+
 ghost use Rattle.std.specs.Prelude.{◌≡◌, [], ◌+◌, ◌*◌, ◌/◌, ◌≤◌, ◌<◌, length, take};
 ghost use Rattle.sectors.specs.Sectors.{sec, apply_steps, apply_step, writes_in, lean_writes};
 ghost use Rattle.counts.specs.Stamps.{max_tx};

@@ -15,47 +15,26 @@ use Rattle.store_figures.specs.declared.Figures.{Figures}
 use Rattle.store_figures.proofs.FigureLaws.{both-figures, left_in, page-most, figure-start, figure-turn, figure-end}
 use Rattle.store_figures.proofs.figures_in.Goals as goal
 
--- both pages lie in the image
-rooms : (c : tie.After-page-at2 invariant-loop decreases-loop)
-    → (512 * c.before.page-at.result.0 + 512 ≤ length c.before.before.before.before.before.before.args.img.now)
-    × (512 * c.page-at2.result.0 + 512 ≤ length c.before.before.before.before.before.before.args.img.now)
-rooms c =
-    let z = c.before.before.before.before.before.before in
-    (page-room _ _ _ _ z.requires.0 (omega arith) z.requires.1 c.before.page-at.ensures, page-room _ _ _ _ z.requires.0 (omega arith) z.requires.1 c.page-at2.ensures)
-
--- what the two pages count
-free_of : (c : tie.After-between invariant-loop decreases-loop)
-    → c.between.result.free ≡ free_in (sec c.before.before.before.before.before.before.before.args.img.now c.before.before.page-at.result.0) (sec c.before.before.before.before.before.before.before.args.img.now c.before.page-at2.result.0)
-free_of c = ap (λ (x : Figures). x.free) c.between.ensures
-
-waiting-of : (c : tie.After-between invariant-loop decreases-loop)
-    → c.between.result.waiting ≡ waiting_in (sec c.before.before.before.before.before.before.before.args.img.now c.before.before.page-at.result.0) (sec c.before.before.before.before.before.before.before.args.img.now c.before.page-at2.result.0)
-waiting-of c = ap (λ (x : Figures). x.waiting) c.between.ensures
-
--- at most 4,096 each
-most : (c : tie.After-between invariant-loop decreases-loop) → (c.between.result.free ≤ 4096) × (c.between.result.waiting ≤ 4096)
-most c = page-most _ _ _ (rooms c.before).0 (rooms c.before).1 (free_of c) (waiting-of c)
-
 pub loop-p-init : goal.loop-p-init
 loop-p-init c = (omega arith, figure-start free_in free-over free-empty _ _ _ _, figure-start waiting_in waiting-over waiting-empty _ _ _ _, omega arith, omega arith)
 
 pub between-f-requires : goal.between-f-requires
-between-f-requires c = rooms c
+between-f-requires c = (page-room _ _ _ _ c.requires.0 (omega arith) c.requires.1 c.page_at-a.ensures, page-room _ _ _ _ c.requires.0 (omega arith) c.requires.1 c.page_at-b.ensures)
 
 pub overflow_add-free : goal.overflow_add-free
-overflow_add-free c = omega (arith, (most c).0)
+overflow_add-free c = omega (arith, (page-most _ _ _ (page-room _ _ _ _ c.requires.0 (omega arith) c.requires.1 c.page_at-a.ensures) (page-room _ _ _ _ c.requires.0 (omega arith) c.requires.1 c.page_at-b.ensures) (ap (λ (x : Figures). x.free) c.between-f.ensures) (ap (λ (x : Figures). x.waiting) c.between-f.ensures)).0)
 
 pub overflow_add-waiting : goal.overflow_add-waiting
-overflow_add-waiting c = omega (arith, (most c).1)
+overflow_add-waiting c = omega (arith, (page-most _ _ _ (page-room _ _ _ _ c.requires.0 (omega arith) c.requires.1 c.page_at-a.ensures) (page-room _ _ _ _ c.requires.0 (omega arith) c.requires.1 c.page_at-b.ensures) (ap (λ (x : Figures). x.free) c.between-f.ensures) (ap (λ (x : Figures). x.waiting) c.between-f.ensures)).1)
 
 pub loop-p-preserved : goal.loop-p-preserved
 loop-p-preserved c =
     let l = c.loop-p in (
       omega arith,
-      figure-turn free_in free-over free-empty _ _ _ _ _ _ (omega arith) (rooms c).0 (rooms c).1 c.page_at-a.ensures c.page_at-b.ensures (free_of c) l.invariant.1,
-      figure-turn waiting_in waiting-over waiting-empty _ _ _ _ _ _ (omega arith) (rooms c).0 (rooms c).1 c.page_at-a.ensures c.page_at-b.ensures (waiting-of c) l.invariant.2,
-      omega (arith, (most c).0),
-      omega (arith, (most c).1),
+      figure-turn free_in free-over free-empty _ _ _ _ _ _ (omega arith) (page-room _ _ _ _ c.requires.0 (omega arith) c.requires.1 c.page_at-a.ensures) (page-room _ _ _ _ c.requires.0 (omega arith) c.requires.1 c.page_at-b.ensures) c.page_at-a.ensures c.page_at-b.ensures (ap (λ (x : Figures). x.free) c.between-f.ensures) l.invariant.1,
+      figure-turn waiting_in waiting-over waiting-empty _ _ _ _ _ _ (omega arith) (page-room _ _ _ _ c.requires.0 (omega arith) c.requires.1 c.page_at-a.ensures) (page-room _ _ _ _ c.requires.0 (omega arith) c.requires.1 c.page_at-b.ensures) c.page_at-a.ensures c.page_at-b.ensures (ap (λ (x : Figures). x.waiting) c.between-f.ensures) l.invariant.2,
+      omega (arith, (page-most _ _ _ (page-room _ _ _ _ c.requires.0 (omega arith) c.requires.1 c.page_at-a.ensures) (page-room _ _ _ _ c.requires.0 (omega arith) c.requires.1 c.page_at-b.ensures) (ap (λ (x : Figures). x.free) c.between-f.ensures) (ap (λ (x : Figures). x.waiting) c.between-f.ensures)).0),
+      omega (arith, (page-most _ _ _ (page-room _ _ _ _ c.requires.0 (omega arith) c.requires.1 c.page_at-a.ensures) (page-room _ _ _ _ c.requires.0 (omega arith) c.requires.1 c.page_at-b.ensures) (ap (λ (x : Figures). x.free) c.between-f.ensures) (ap (λ (x : Figures). x.waiting) c.between-f.ensures)).1),
     )
 
 pub returns : goal.returns

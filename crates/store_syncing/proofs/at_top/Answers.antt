@@ -1,0 +1,8 @@
+-- The definition, unfolded. Assumes nothing.
+use borrow.Author.Rules.{rules}
+use Rattle.store.specs.Steps.{at_top}
+use Rattle.store_syncing.proofs.at_top.Goals as goal
+
+pub returns : goal.returns
+unfolding at_top
+returns c = rw c.top-top.ensures
