@@ -12,6 +12,8 @@
 // as far as place k, and nothing else; no other buffer changes, and the card is as it would be if the call stopped there. Mount has two places: sector
 // 0, and a barrier, behind which everything written has landed. Sync's are sector 0, the S - T - 1 sectors past the table in rising order, a barrier, the
 // table sector, a barrier; a sector that does not differ is not written. Unmount's are sync's, and then sector 0. Past the last place nothing happens.
+#![tactic(auto)]
+
 ghost use Rattle.std.specs.Prelude.{◌≡◌};
 ghost use Rattle.card.specs.Make.{make};
 ghost use Rattle.card.specs.Reading.{read, read_get};
