@@ -5,6 +5,8 @@
 // is taken, and answered 4. Each function then answers as the one of those crates with the same signature, byte for byte: its `ensures` is the same.
 //
 // Slices, arrays and numbers cross as in crate host, a session as the same 24 bytes; mount, make and reading are those crates'.
+#![tactic(auto)]
+
 ghost use Rattle.std.specs.Prelude.{◌≡◌};
 ghost use Rattle.store.specs.Edit.{put, put_at, remove};
 ghost use Rattle.store.specs.Inner.{FitOf};

@@ -2,6 +2,8 @@
 //
 // A slice crosses as a pointer and a length, a line and an answer as the words and bytes of their structs, a
 // session as the 24 bytes that crate host names. No two lent buffers may overlap.
+#![tactic(auto)]
+
 ghost use Rattle.std.specs.Prelude.{◌≡◌};
 ghost use Rattle.card.specs.Reading.{read_list};
 ghost use Rattle.store.specs.Look.{list};

@@ -2,6 +2,8 @@
 //
 // A call in a session is two functions. The inner one, named `_fitting`, makes every test but 2 and requires instead that an open session fits; the public
 // one is that test and then the inner one.
+#![tactic(auto)]
+
 ghost use Rattle.std.specs.Prelude.{◌≡◌, length, drop, get_or};
 ghost use Rattle.counts.specs.Inner.{LaidOut};
 ghost use Rattle.card.specs.Files.{no_line};
