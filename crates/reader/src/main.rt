@@ -1,10 +1,14 @@
 // The reading program: a card of at most 65,536 bytes from standard input.
-fn main() {
+#![tactic(auto)]
+
+use std::io;
+
+fn main(rt: HostRuntime) -> io::Result<()> {
     let mut card = [0u8; 65537];
-    let n = io::read_full(libc::STDIN_FILENO, &mut card);
+    let mut out = rt.stdout();
+    let n = reader_report::read_full(&mut rt.stdin(), &mut card)?;
     if 65536 < n {
-        reader_report::refused(1);
-        return;
+        return reader_report::refused(&mut out, 1);
     }
-    reader_report::report(&card[0..n]);
+    reader_report::report(&mut out, &card[0..n])
 }

@@ -1,9 +1,5 @@
 -- A card that is read with number 0 has the right shape and is sound. Assumes nothing.
-use mathlib.Core.Path.{◌≡◌, refl, ap, ◌∙◌}
-use mathlib.Core.Bool.{Bool, true, false}
-use mathlib.Core.List.{List}
-use Prim.Native.Nat.{ℕ}
-use native.Mathlib.Omega.{arith}
+use Rattle.std.proofs.Common.{◌≡◌, Bool, true, false, List, ℕ, arith, refl, ap, ◌∙◌}
 use Rattle.card.specs.declared.Report.{Report}
 use Rattle.card.specs.Plan.{guard, ended}
 use Rattle.card.specs.Sound.{shape_ok, sound}
