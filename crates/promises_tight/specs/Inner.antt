@@ -93,7 +93,7 @@ pub record InnerCalls : Type 2 where
   pub of_put_at : Inner 3 put_at_is.ps put_at_is.r (λ κs a. FitOf a.0 a.1.0.now) put_at_fitting.Pre put_at_fitting.Post put_at.Post
   pub of_remove : Inner 2 remove_is.ps remove_is.r (λ κs a. FitOf a.0 a.1.0.now) remove_fitting.Pre remove_fitting.Post remove.Post
   pub of_get : Inner 3 get_is.ps get_is.r (λ κs a. FitOf a.0 a.1.0.now) get_fitting.Pre get_fitting.Post get.Post
-  pub of_list : InnerLines list.ended (λ M 𝓤. list_fitting.clauses 𝓤) (λ M 𝓤. list.clauses 𝓤) (λ κs a. FitOf a.0 a.1.0.now)
+  pub of_list : InnerLines list.ended (λ M 𝓤 𝓛. list_fitting.clauses 𝓛) (λ M 𝓤 𝓛. list.clauses 𝓛) (λ κs a. FitOf a.0 a.1.0.now)
   pub of_free : Inner 1 free_is.ps free_is.r (λ κs a. FitOf a.0 a.1.0.now) free_fitting.Pre free_fitting.Post free.Post
   pub of_line : Inner 1 line_is.ps line_is.r (λ κs a. FitOf a.0 a.1.0.now) line_fitting.Pre line_fitting.Post line.Post
   pub of_land : Inner 2 land_is.ps land_is.r (λ κs a. FitOn a.0 a.1.0.now a.1.1.0.now) land_fitting.Pre land_fitting.Post land.Post
@@ -103,7 +103,7 @@ pub record InnerCalls : Type 2 where
   pub of_fitting_put_at : Inner 4 store_put_at_is.ps store_put_at_is.r (λ κs a. FitOf (decoded a.0.now) a.1.0.now) fitting_put_at.Pre fitting_put_at.Post store_put_at.Post
   pub of_fitting_remove : Inner 3 store_remove_is.ps store_remove_is.r (λ κs a. FitOf (decoded a.0.now) a.1.0.now) fitting_remove.Pre fitting_remove.Post store_remove.Post
   pub of_fitting_get : Inner 4 store_get_is.ps store_get_is.r (λ κs a. FitOf (decoded a.0.now) a.1.0.now) fitting_get.Pre fitting_get.Post store_get.Post
-  pub of_fitting_list : InnerLines store_list.ended (λ M 𝓤. fitting_list.clauses 𝓤) (λ M 𝓤. store_list.clauses 𝓤) (λ κs a. FitOf (decoded a.0.now) a.1.0.now)
+  pub of_fitting_list : InnerLines store_list.ended (λ M 𝓤 𝓛. fitting_list.clauses 𝓛) (λ M 𝓤 𝓛. store_list.clauses 𝓛) (λ κs a. FitOf (decoded a.0.now) a.1.0.now)
   pub of_fitting_free : Inner 3 store_free_is.ps store_free_is.r (λ κs a. FitOf (decoded a.0.now) a.1.0.now) fitting_free.Pre fitting_free.Post store_free.Post
   pub of_fitting_land : Inner 3 store_land_is.ps store_land_is.r (λ κs a. FitOf (decoded a.0.now) a.1.1.0.now) fitting_land.Pre fitting_land.Post store_land.Post
   pub of_fitting_sync : Inner 3 store_sync_is.ps store_sync_is.r (λ κs a. FitOf (decoded a.0.now) a.1.1.0.now) fitting_sync.Pre fitting_sync.Post store_sync.Post

@@ -35,7 +35,7 @@ module _ (T : Ended) (clauses : (M : Type 1) (𝓤 : Ura M) → (𝓛 : Logic �
     pub one : (κs : Lfts T.signature.lifetimes) (a : Args T.signature κs) (x y : Res T.signature κs) (s t : AtExit T κs) → P κs a x s → P κs a y t
         → (x ≡ y) × (seen κs s ≡ seen κs t)
 
-pub list-tight : Tight list_is.ended (λ M 𝓤. list_is.clauses 𝓤) (λ κs a r s. (r ≡ (list a.0 a.1.0.now a.1.1.0.now).answer) × (s.1.1.0.now ≡ (list a.0 a.1.0.now a.1.1.0.now).lines)) (λ κs s. s.1.1.0.now)
+pub list-tight : Tight list_is.ended (λ M 𝓤 𝓛. list_is.clauses 𝓛) (λ κs a r s. (r ≡ (list a.0 a.1.0.now a.1.1.0.now).answer) × (s.1.1.0.now ≡ (list a.0 a.1.0.now a.1.1.0.now).lines)) (λ κs s. s.1.1.0.now)
 list-tight =
     record {
       asks = λ M 𝓤 𝓛 mem run κs a g. refl;
@@ -43,7 +43,7 @@ list-tight =
       one = λ κs a x y s t p q. (p.0 ∙ sym q.0, p.1 ∙ sym q.1);
     }
 
-pub read_list-tight : Tight read_list_is.ended (λ M 𝓤. read_list_is.clauses 𝓤) (λ κs a r s. (r ≡ (read_list a.0.now a.1.0.now).answer) × (s.1.0.now ≡ (read_list a.0.now a.1.0.now).lines)) (λ κs s. s.1.0.now)
+pub read_list-tight : Tight read_list_is.ended (λ M 𝓤 𝓛. read_list_is.clauses 𝓛) (λ κs a r s. (r ≡ (read_list a.0.now a.1.0.now).answer) × (s.1.0.now ≡ (read_list a.0.now a.1.0.now).lines)) (λ κs s. s.1.0.now)
 read_list-tight =
     record {
       asks = λ M 𝓤 𝓛 mem run κs a g. refl;
@@ -51,7 +51,7 @@ read_list-tight =
       one = λ κs a x y s t p q. (p.0 ∙ sym q.0, p.1 ∙ sym q.1);
     }
 
-pub store_list-tight : Tight store_list_is.ended (λ M 𝓤. store_list_is.clauses 𝓤) (λ κs a r s. (r ≡ (list (decoded a.0.now) a.1.0.now a.1.1.0.now).answer) × (s.1.1.0.now ≡ (list (decoded a.0.now) a.1.0.now a.1.1.0.now).lines)) (λ κs s. s.1.1.0.now)
+pub store_list-tight : Tight store_list_is.ended (λ M 𝓤 𝓛. store_list_is.clauses 𝓛) (λ κs a r s. (r ≡ (list (decoded a.0.now) a.1.0.now a.1.1.0.now).answer) × (s.1.1.0.now ≡ (list (decoded a.0.now) a.1.0.now a.1.1.0.now).lines)) (λ κs s. s.1.1.0.now)
 store_list-tight =
     record {
       asks = λ M 𝓤 𝓛 mem run κs a g. refl;
@@ -59,7 +59,7 @@ store_list-tight =
       one = λ κs a x y s t p q. (p.0 ∙ sym q.0, p.1 ∙ sym q.1);
     }
 
-pub store_read_list-tight : Tight store_read_list_is.ended (λ M 𝓤. store_read_list_is.clauses 𝓤) (λ κs a r s. (r ≡ (read_list a.0.now a.1.0.now).answer) × (s.1.0.now ≡ (read_list a.0.now a.1.0.now).lines)) (λ κs s. s.1.0.now)
+pub store_read_list-tight : Tight store_read_list_is.ended (λ M 𝓤 𝓛. store_read_list_is.clauses 𝓛) (λ κs a r s. (r ≡ (read_list a.0.now a.1.0.now).answer) × (s.1.0.now ≡ (read_list a.0.now a.1.0.now).lines)) (λ κs s. s.1.0.now)
 store_read_list-tight =
     record {
       asks = λ M 𝓤 𝓛 mem run κs a g. refl;

@@ -1,1 +1,2 @@
 // Uniqueness of what the public functions are proved to do. No function.
+#![tactic(auto)]
