@@ -23,13 +23,7 @@ use store_listing::list_fitting;
 use store_look::{free_fitting, get_fitting};
 
 // put: 4, 9, 5, 7, 8
-#[unsafe(no_mangle)]
-pub extern "C" fn fitting_put(
-    session: &[u8; 24],
-    work: &mut [u8],
-    name: &[u8],
-    content: &[u8],
-) -> u32
+pub fn fitting_put(session: &[u8; 24], work: &mut [u8], name: &[u8], content: &[u8]) -> u32
     requires { FitOf (decoded session.now) work.old }
     ensures { (result ≡ (put (decoded session.now) work.old name.now content.now).answer.number) × (work.new ≡ (put (decoded session.now) work.old name.now content.now).image) }
 {
@@ -40,8 +34,7 @@ pub extern "C" fn fitting_put(
 }
 
 // Put with a goal sector: 4, 9, 5, 11, 7, 8
-#[unsafe(no_mangle)]
-pub extern "C" fn fitting_put_at(
+pub fn fitting_put_at(
     session: &[u8; 24],
     work: &mut [u8],
     name: &[u8],
@@ -58,8 +51,7 @@ pub extern "C" fn fitting_put_at(
 }
 
 // remove: 4, 9, 5, 6
-#[unsafe(no_mangle)]
-pub extern "C" fn fitting_remove(session: &[u8; 24], work: &mut [u8], name: &[u8]) -> u32
+pub fn fitting_remove(session: &[u8; 24], work: &mut [u8], name: &[u8]) -> u32
     requires { FitOf (decoded session.now) work.old }
     ensures { (result ≡ (remove (decoded session.now) work.old name.now).answer.number) × (work.new ≡ (remove (decoded session.now) work.old name.now).image) }
 {
@@ -70,13 +62,7 @@ pub extern "C" fn fitting_remove(session: &[u8; 24], work: &mut [u8], name: &[u8
 }
 
 // get: 4, 5, 6, 10; the file's bytes fill the first of the output and are counted, the rest stays.
-#[unsafe(no_mangle)]
-pub extern "C" fn fitting_get(
-    session: &[u8; 24],
-    work: &[u8],
-    name: &[u8],
-    out: &mut [u8],
-) -> Answer
+pub fn fitting_get(session: &[u8; 24], work: &[u8], name: &[u8], out: &mut [u8]) -> Answer
     requires { FitOf (decoded session.now) work.now }
     ensures { (result ≡ (get (decoded session.now) work.now name.now out.old).answer) × (out.new ≡ (get (decoded session.now) work.now name.now out.old).out) }
 {
@@ -86,8 +72,7 @@ pub extern "C" fn fitting_get(
 }
 
 // list: 4, 10; each line is a file's, the files are counted, and later lines stay.
-#[unsafe(no_mangle)]
-pub extern "C" fn fitting_list(session: &[u8; 24], work: &[u8], lines: &mut [Line]) -> Answer
+pub fn fitting_list(session: &[u8; 24], work: &[u8], lines: &mut [Line]) -> Answer
     requires { FitOf (decoded session.now) work.now }
     ensures { (result ≡ (list (decoded session.now) work.now lines.old).answer) × (lines.new ≡ (list (decoded session.now) work.now lines.old).lines) }
 {
@@ -96,8 +81,7 @@ pub extern "C" fn fitting_list(session: &[u8; 24], work: &[u8], lines: &mut [Lin
 }
 
 // free: 4; the words free and waiting, and on a refusal the output as lent.
-#[unsafe(no_mangle)]
-pub extern "C" fn fitting_free(session: &[u8; 24], work: &[u8], out: &mut [u8; 8]) -> u32
+pub fn fitting_free(session: &[u8; 24], work: &[u8], out: &mut [u8; 8]) -> u32
     requires { FitOf (decoded session.now) work.now }
     ensures { (result ≡ (free (decoded session.now) work.now).number) × (out.new ≡ roomed (free (decoded session.now) work.now) out.old) }
 {
@@ -108,8 +92,7 @@ pub extern "C" fn fitting_free(session: &[u8; 24], work: &[u8], out: &mut [u8; 8
 }
 
 // land: 4, 1, 11
-#[unsafe(no_mangle)]
-pub extern "C" fn fitting_land(session: &[u8; 24], card: &mut [u8], work: &[u8], sector: u32) -> u32
+pub fn fitting_land(session: &[u8; 24], card: &mut [u8], work: &[u8], sector: u32) -> u32
     requires { FitOf (decoded session.now) work.now }
     ensures { (result ≡ (land (decoded session.now) card.old work.now sector).answer.number) × (card.new ≡ (land (decoded session.now) card.old work.now sector).image) }
 {
@@ -120,12 +103,7 @@ pub extern "C" fn fitting_land(session: &[u8; 24], card: &mut [u8], work: &[u8],
 }
 
 // sync: 4, 1, 9, with the number of sectors written; on a refusal the session's bytes stay as lent.
-#[unsafe(no_mangle)]
-pub extern "C" fn fitting_sync_count(
-    session: &mut [u8; 24],
-    card: &mut [u8],
-    work: &mut [u8],
-) -> Answer
+pub fn fitting_sync_count(session: &mut [u8; 24], card: &mut [u8], work: &mut [u8]) -> Answer
     requires { FitOf (decoded session.old) work.old }
     ensures { IsKept result session.new card.new work.new session.old (sync (decoded session.old) card.old work.old) }
 {
@@ -136,8 +114,7 @@ pub extern "C" fn fitting_sync_count(
 }
 
 // The same call, its number alone.
-#[unsafe(no_mangle)]
-pub extern "C" fn fitting_sync(session: &mut [u8; 24], card: &mut [u8], work: &mut [u8]) -> u32
+pub fn fitting_sync(session: &mut [u8; 24], card: &mut [u8], work: &mut [u8]) -> u32
     requires { FitOf (decoded session.old) work.old }
     ensures { IsKeptNumber result session.new card.new work.new session.old (sync (decoded session.old) card.old work.old) }
 {
@@ -146,12 +123,7 @@ pub extern "C" fn fitting_sync(session: &mut [u8; 24], card: &mut [u8], work: &m
 }
 
 // unmount: 4, 1, with the number of sectors its sync wrote; with 0 the session's bytes are the closed session, on a refusal as lent.
-#[unsafe(no_mangle)]
-pub extern "C" fn fitting_unmount(
-    session: &mut [u8; 24],
-    card: &mut [u8],
-    work: &mut [u8],
-) -> Answer
+pub fn fitting_unmount(session: &mut [u8; 24], card: &mut [u8], work: &mut [u8]) -> Answer
     requires { FitOf (decoded session.old) work.old }
     ensures { IsKept result session.new card.new work.new session.old (unmount (decoded session.old) card.old work.old) }
 {

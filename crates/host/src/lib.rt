@@ -39,8 +39,7 @@ use store_mounting::mount_steps;
 use store_syncing::{sync_steps, unmount_steps};
 
 // "make 1"
-#[unsafe(no_mangle)]
-pub extern "C" fn store_make(s: u32, t: u32, d: u32, card: &mut [u8]) -> u32
+pub fn store_make(s: u32, t: u32, d: u32, card: &mut [u8]) -> u32
     ensures { (result ≡ (make (geo_with s t d) card.old).answer.number) × (card.new ≡ (make (geo_with s t d) card.old).image) }
 {
     let a = make(Geo { s, t, d }, card);
@@ -48,8 +47,7 @@ pub extern "C" fn store_make(s: u32, t: u32, d: u32, card: &mut [u8]) -> u32
 }
 
 // Reading a card: on a refusal the output stays as lent.
-#[unsafe(no_mangle)]
-pub extern "C" fn store_read(card: &[u8], out: &mut [u8; 16]) -> u32
+pub fn store_read(card: &[u8], out: &mut [u8; 16]) -> u32
     ensures { (result ≡ (read card.now).number) × (out.new ≡ reported (read card.now) out.old) }
 {
     let r = read(card);
@@ -61,16 +59,14 @@ pub extern "C" fn store_read(card: &[u8], out: &mut [u8; 16]) -> u32
 }
 
 // Reading's get: "1, 2, 5, 6, 10", over the files that a card shows.
-#[unsafe(no_mangle)]
-pub extern "C" fn store_read_get(card: &[u8], name: &[u8], out: &mut [u8]) -> Answer
+pub fn store_read_get(card: &[u8], name: &[u8], out: &mut [u8]) -> Answer
     ensures { (result ≡ (read_get card.now name.now out.old).answer) × (out.new ≡ (read_get card.now name.now out.old).out) }
 {
     read_get(card, name, out)
 }
 
 // "mount 1, 2, 3"; a refused mount gives the closed session.
-#[unsafe(no_mangle)]
-pub extern "C" fn store_mount(card: &mut [u8], work: &mut [u8], session: &mut [u8; 24]) -> u32
+pub fn store_mount(card: &mut [u8], work: &mut [u8], session: &mut [u8; 24]) -> u32
     ensures { IsMounted result session.new card.new work.new (mount card.old work.old) }
 {
     let o = mount(card, work);
@@ -80,8 +76,7 @@ pub extern "C" fn store_mount(card: &mut [u8], work: &mut [u8], session: &mut [u
 }
 
 // "put 4, 2, 9, 5, 7, 8"
-#[unsafe(no_mangle)]
-pub extern "C" fn store_put(session: &[u8; 24], work: &mut [u8], name: &[u8], content: &[u8]) -> u32
+pub fn store_put(session: &[u8; 24], work: &mut [u8], name: &[u8], content: &[u8]) -> u32
     ensures { (result ≡ (put (decoded session.now) work.old name.now content.now).answer.number) × (work.new ≡ (put (decoded session.now) work.old name.now content.now).image) }
 {
     let b = *session;
@@ -91,8 +86,7 @@ pub extern "C" fn store_put(session: &[u8; 24], work: &mut [u8], name: &[u8], co
 }
 
 // "remove 4, 2, 9, 5, 6"
-#[unsafe(no_mangle)]
-pub extern "C" fn store_remove(session: &[u8; 24], work: &mut [u8], name: &[u8]) -> u32
+pub fn store_remove(session: &[u8; 24], work: &mut [u8], name: &[u8]) -> u32
     ensures { (result ≡ (remove (decoded session.now) work.old name.now).answer.number) × (work.new ≡ (remove (decoded session.now) work.old name.now).image) }
 {
     let b = *session;
@@ -102,8 +96,7 @@ pub extern "C" fn store_remove(session: &[u8; 24], work: &mut [u8], name: &[u8])
 }
 
 // "get 4, 2, 5, 6, 10": the file's bytes fill the first of the output and are counted; the rest stays.
-#[unsafe(no_mangle)]
-pub extern "C" fn store_get(session: &[u8; 24], work: &[u8], name: &[u8], out: &mut [u8]) -> Answer
+pub fn store_get(session: &[u8; 24], work: &[u8], name: &[u8], out: &mut [u8]) -> Answer
     ensures { (result ≡ (get (decoded session.now) work.now name.now out.old).answer) × (out.new ≡ (get (decoded session.now) work.now name.now out.old).out) }
 {
     let b = *session;
@@ -112,8 +105,7 @@ pub extern "C" fn store_get(session: &[u8; 24], work: &[u8], name: &[u8], out: &
 }
 
 // Put with a goal sector: "4, 2, 9, 5", 11, "7, 8"
-#[unsafe(no_mangle)]
-pub extern "C" fn store_put_at(
+pub fn store_put_at(
     session: &[u8; 24],
     work: &mut [u8],
     name: &[u8],
@@ -129,8 +121,7 @@ pub extern "C" fn store_put_at(
 }
 
 // "free 4, 2": the words free and waiting; on a refusal the output stays as lent.
-#[unsafe(no_mangle)]
-pub extern "C" fn store_free(session: &[u8; 24], work: &[u8], out: &mut [u8; 8]) -> u32
+pub fn store_free(session: &[u8; 24], work: &[u8], out: &mut [u8; 8]) -> u32
     ensures { (result ≡ (free (decoded session.now) work.now).number) × (out.new ≡ roomed (free (decoded session.now) work.now) out.old) }
 {
     let b = *session;
@@ -140,12 +131,7 @@ pub extern "C" fn store_free(session: &[u8; 24], work: &[u8], out: &mut [u8; 8])
 }
 
 // "sync 4, 1, 2, 9", with the number of sectors written; on a refusal the session's bytes stay as lent.
-#[unsafe(no_mangle)]
-pub extern "C" fn store_sync_count(
-    session: &mut [u8; 24],
-    card: &mut [u8],
-    work: &mut [u8],
-) -> Answer
+pub fn store_sync_count(session: &mut [u8; 24], card: &mut [u8], work: &mut [u8]) -> Answer
     ensures { IsKept result session.new card.new work.new session.old (sync (decoded session.old) card.old work.old) }
 {
     let b = *session;
@@ -155,8 +141,7 @@ pub extern "C" fn store_sync_count(
 }
 
 // The same call, its number alone.
-#[unsafe(no_mangle)]
-pub extern "C" fn store_sync(session: &mut [u8; 24], card: &mut [u8], work: &mut [u8]) -> u32
+pub fn store_sync(session: &mut [u8; 24], card: &mut [u8], work: &mut [u8]) -> u32
     ensures { IsKeptNumber result session.new card.new work.new session.old (sync (decoded session.old) card.old work.old) }
 {
     let a = store_sync_count(session, card, work);
@@ -164,8 +149,7 @@ pub extern "C" fn store_sync(session: &mut [u8; 24], card: &mut [u8], work: &mut
 }
 
 // "unmount 4, 1, 2", with the number of sectors its sync wrote; with 0 the session's bytes are the closed session, on a refusal as lent.
-#[unsafe(no_mangle)]
-pub extern "C" fn store_unmount(session: &mut [u8; 24], card: &mut [u8], work: &mut [u8]) -> Answer
+pub fn store_unmount(session: &mut [u8; 24], card: &mut [u8], work: &mut [u8]) -> Answer
     ensures { IsKept result session.new card.new work.new session.old (unmount (decoded session.old) card.old work.old) }
 {
     let b = *session;
@@ -175,8 +159,7 @@ pub extern "C" fn store_unmount(session: &mut [u8; 24], card: &mut [u8], work: &
 }
 
 // "land 4, 1, 2, 11"
-#[unsafe(no_mangle)]
-pub extern "C" fn store_land(session: &[u8; 24], card: &mut [u8], work: &[u8], sector: u32) -> u32
+pub fn store_land(session: &[u8; 24], card: &mut [u8], work: &[u8], sector: u32) -> u32
     ensures { (result ≡ (land (decoded session.now) card.old work.now sector).answer.number) × (card.new ≡ (land (decoded session.now) card.old work.now sector).image) }
 {
     let b = *session;
@@ -188,8 +171,7 @@ pub extern "C" fn store_land(session: &[u8; 24], card: &mut [u8], work: &[u8], s
 // ---- the first steps of a call
 
 // "mount 1, 2, 3", then its first k steps on the card; no session, and the working image is only measured.
-#[unsafe(no_mangle)]
-pub extern "C" fn store_mount_steps(card: &mut [u8], work: &[u8], k: u32) -> u32
+pub fn store_mount_steps(card: &mut [u8], work: &[u8], k: u32) -> u32
     ensures { (result ≡ (mount_first card.old work.now k).answer.number) × (card.new ≡ (mount_first card.old work.now k).image) }
 {
     let n = mount_number(card, work);
@@ -201,13 +183,7 @@ pub extern "C" fn store_mount_steps(card: &mut [u8], work: &[u8], k: u32) -> u32
 }
 
 // "sync 4, 1, 2, 9", then its steps at its first k places, with the number of sectors written there.
-#[unsafe(no_mangle)]
-pub extern "C" fn store_sync_steps(
-    session: &[u8; 24],
-    card: &mut [u8],
-    work: &[u8],
-    k: u32,
-) -> Answer
+pub fn store_sync_steps(session: &[u8; 24], card: &mut [u8], work: &[u8], k: u32) -> Answer
     ensures { (result ≡ (sync_first (decoded session.now) card.old work.now k).answer) × (card.new ≡ (sync_first (decoded session.now) card.old work.now k).image) }
 {
     let b = *session;
@@ -228,13 +204,7 @@ pub extern "C" fn store_sync_steps(
 }
 
 // "unmount 4, 1, 2", then its steps at its first k places, with the number of sectors that its sync writes there.
-#[unsafe(no_mangle)]
-pub extern "C" fn store_unmount_steps(
-    session: &[u8; 24],
-    card: &mut [u8],
-    work: &[u8],
-    k: u32,
-) -> Answer
+pub fn store_unmount_steps(session: &[u8; 24], card: &mut [u8], work: &[u8], k: u32) -> Answer
     ensures { (result ≡ (unmount_first (decoded session.now) card.old work.now k).answer) × (card.new ≡ (unmount_first (decoded session.now) card.old work.now k).image) }
 {
     let b = *session;

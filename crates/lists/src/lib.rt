@@ -14,16 +14,14 @@ use host_crossing::session_at;
 use store_listing::{list, read_list};
 
 // read_list for a host.
-#[unsafe(no_mangle)]
-pub extern "C" fn store_read_list(card: &[u8], lines: &mut [Line]) -> Answer
+pub fn store_read_list(card: &[u8], lines: &mut [Line]) -> Answer
     ensures { (result ≡ (read_list card.now lines.old).answer) × (lines.new ≡ (read_list card.now lines.old).lines) }
 {
     read_list(card, lines)
 }
 
 // list for a host.
-#[unsafe(no_mangle)]
-pub extern "C" fn store_list(session: &[u8; 24], work: &[u8], lines: &mut [Line]) -> Answer
+pub fn store_list(session: &[u8; 24], work: &[u8], lines: &mut [Line]) -> Answer
     ensures { (result ≡ (list (decoded session.now) work.now lines.old).answer) × (lines.new ≡ (list (decoded session.now) work.now lines.old).lines) }
 {
     let s = session_at(session);

@@ -20,7 +20,7 @@ use Rattle.session.specs.declared.Opened.{Opened}
 use Rattle.session.specs.declared.Session.TheVariants.{Open}
 use Rattle.session.specs.Views.{present_table, present_files}
 use Rattle.session.specs.FitMeans.{Fits}
-use Rattle.store.specs.Look.{get, list, free}
+use Rattle.store.specs.Look.{get, list}
 use Rattle.promises_answers.specs.PlainList.{Item, shown_by, shown_in}
 use Rattle.promises_answers.specs.PlainCalls.{Lines, none_left, one_more, SessionShows, CardShows}
 use Rattle.promises_answers.proofs.ViewShows.{lines-length}

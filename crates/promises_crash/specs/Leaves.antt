@@ -64,7 +64,7 @@ pub record BothSynced (s : Opened) (card work head card' work' : List ℕ) : Typ
   -- "then sets word c to t and writes the table sector that holds it": no other table sector of the card changes
   pub card_table : sec card' (table_sector s.c.0) ≡ with_word s.c.0 s.t.0 (sec work (table_sector s.c.0))
   pub card_others : (i : ℕ) → 1 ≤ i → i ≤ s.geo.t → i ≢ table_sector s.c.0 → sec card' i ≡ sec card i
-  -- the working image, where word c is set: an unmount that leaves its count at c + 1 is refused by `workHead`
+  -- the working image, where word c is set: an unmount that leaves its count at c + 1 is refused by `work_head`
   pub work_head : sec work' 0 ≡ head
   pub work_table : sec work' (table_sector s.c.0) ≡ with_word s.c.0 s.t.0 (sec work (table_sector s.c.0))
   pub work_others : (i : ℕ) → i ≢ 0 → i ≢ table_sector s.c.0 → sec work' i ≡ sec work i

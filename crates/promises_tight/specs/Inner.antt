@@ -78,7 +78,7 @@ module _ (n : ℕ) (ps : List (ParamKind n)) (r : ResultKind n) (Asks Pre : In n
       (κs : Lfts n) (a : Dens κs ps)
       → (Pre κs a ≡ Asks κs a) × ((x : (res_t r κs).Denot) (s : AtExit (ended_of n ps r) κs) → Post κs a x s ≡ Tested κs a x s)
 
--- the same of list, whose proofs are walks by hand: the kit exports what their contracts (T; Said, Tested) say as clauses of its logic
+-- the same of list over a lent table of lines, of what its contracts (T; Said, Tested) say as clauses of the kit's logic
 module _ (T : Ended) (Said Tested : (M : Type 1) (𝓤 : Ura M) → (𝓛 : Logic 𝓤) → (Memory → SProp 𝓤) → (Routine → Fun 𝓤) → Clauses 𝓤 T) where
   pub record InnerLines (Asks : (κs : Lfts T.signature.lifetimes) → Args T.signature κs → Type 0) : Type 2 where
     pub asks : (M : Type 1) (𝓤 : Ura M) (𝓛 : Logic 𝓤) (mem : Memory → SProp 𝓤) (run : Routine → Fun 𝓤) (κs : Lfts T.signature.lifetimes)

@@ -1,6 +1,6 @@
 -- Demand 1, "for all inputs; a proof shows that two results meeting it are equal": stated of the contracts that the functions are proved to meet.
 -- `F.Pre` and `F.Post` are the kit's reading of function F's own `requires` and `ensures`: a contract that is cut down or asks for something is
--- refused here. The calls over a lent table of lines, whose proofs are walks by hand, are in TightLists. Assumes nothing.
+-- refused here. The calls over a lent table of lines are in TightLists. Assumes nothing.
 use Rattle.std.specs.Prelude.{◌≡◌, List, [], ◌∷◌, ℕ}
 use contract.Lifetimes.{Lfts}
 use denote.Triple.Clauses.{AtExit}

@@ -1,5 +1,5 @@
--- The same of the four calls over a lent table of lines: their proofs are walks by hand, and the kit exports what their contracts say as clauses of
--- its logic. A call's clauses are shown to be one plain fact, by `refl`, and that fact to determine the answer and every line. Assumes nothing.
+-- The same of the four calls over a lent table of lines, of what their contracts say as clauses of the kit's logic. A call's clauses are shown to be
+-- one plain fact, by `refl`, and that fact to determine the answer and every line. Assumes nothing.
 use Rattle.std.specs.Prelude.{◌≡◌, refl, List}
 use Rattle.std.proofs.Common.{sym, ◌∙◌}
 use seplogic.Ra.Ura.{Ura}

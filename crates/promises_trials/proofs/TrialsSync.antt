@@ -62,7 +62,7 @@ late_steps w = cond (is_first w.session) (steps_of sync_c w) []
 pub some-none : (l m : List Item) (n d : List ℕ) → lookup n l ≡ some d → lookup n m ≡ none → l ≢ m
 some-none l m n d p q e = let u : none ≡ some d = sym q ∙ ap (lookup n) (sym e) ∙ p in never (cc)
 
--- it does as this store does up to the world `putB`: its first sync is this store's
+-- it does as this store does up to the world `put_b`: its first sync is this store's
 pub late-first : after_sync put_a (late_sync put_a.session put_a.card put_a.work) (late_steps put_a) ≡ after sync_c put_a
 unfolding late_sync late_steps after
 late-first = rw at-put_a.0

@@ -44,7 +44,7 @@ first_by (Open s) card work = table_first s card work
 unfoldable pub table_first_of : World → List Step
 table_first_of w = by_number (sync w.session w.card w.work).answer.number (first_by w.session w.card w.work) []
 
--- ---- `putB`, and the first of these steps
+-- ---- `put_b`, and the first of these steps
 
 -- it writes the table sector
 first_step : take 1 (table_first_of put_b) ≡ write 1 new_table ∷ []

@@ -28,7 +28,7 @@ present_table s k = table_in s.geo (present_view s) k
 unfoldable pub cut_view : Opened → View
 cut_view s = cond s.worn (as_is s.geo) (record { c = s.c; t = record { 0 = s.t.0 - 1 } })
 
--- the cut view's table is the working image's as it is: `cut-table` (FitLaws) says that this is what `cutView` takes it as
+-- the cut view's table is the working image's as it is: `cut-table` (FitLaws) says that this is what `cut_view` takes it as
 unfoldable pub cut_table : Opened → Cells → List ℕ
 cut_table s k = table_of s.geo k
 

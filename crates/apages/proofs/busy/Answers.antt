@@ -1,5 +1,4 @@
 -- Two bits are added. Assumes nothing.
-use borrow.Author.Rules.{rules}
 use Rattle.apages.specs.Inner.{busy_at}
 use Rattle.apages.proofs.busy.Goals as goal
 

@@ -1,5 +1,4 @@
 -- The two cases of the definition. Assumes nothing.
-use borrow.Author.Rules.{rules}
 use Rattle.apages.proofs.Scan.{run_up_to-busy}
 use Rattle.apages.proofs.grow.Goals as goal
 

@@ -1,5 +1,4 @@
 -- The byte of the bit is stored with the bit put. Assumes nothing.
-use borrow.Author.Rules.{rules}
 use Rattle.apages.specs.Bits.{put_bit}
 use Rattle.apages.proofs.put_bit.Goals as goal
 

@@ -1,10 +1,9 @@
 -- The loop's invariant: what the pass has seen. Assumes nothing.
-use mathlib.Core.Path.{◌≡◌, sym, ap, ◌∙◌}
-use Prim.Native.Nat.{ℕ, ◌-◌}
+use mathlib.Core.Path.{sym, ap, ◌∙◌}
+use Prim.Native.Nat.{ℕ}
 use native.Mathlib.Omega.{arith}
-use borrow.Author.Rules.{rules}
-use Rattle.apages.specs.Inner.{busy_at, run_up_to}
-use Rattle.apages.proofs.Scan.{run_up_to-le, Seen, seen_start, seen_more, seen-found, seen_end}
+use Rattle.apages.specs.Inner.{run_up_to}
+use Rattle.apages.proofs.Scan.{run_up_to-le, seen_start, seen_more, seen-found, seen_end}
 use Rattle.apages.proofs.LowestLaws.{lowest-within}
 use Rattle.apages.proofs.run_within.Goals as goal
 

@@ -1,10 +1,7 @@
 -- The loop's invariant: the first i bits of the run are set. Assumes nothing.
-use mathlib.Core.Path.{◌≡◌, sym, ◌∙◌}
-use Prim.Native.Nat.{◌-◌, ◌≤◌}
+use mathlib.Core.Path.{sym, ◌∙◌}
 use native.Mathlib.Omega.{arith}
 use borrow.Author.Rules.{rules}
-use lib.ListN.{length}
-use Rattle.apages.specs.Bits.{set_run}
 use Rattle.apages.proofs.ByteLaws.{run-next}
 use Rattle.apages.proofs.RunLaws.{run_none, run-done}
 use Rattle.apages.proofs.set_run.Goals as goal

@@ -1,12 +1,8 @@
 -- The loop's invariant: the first i bits of the run are set. Assumes nothing.
-use mathlib.Core.Path.{◌≡◌, sym, ◌∙◌}
+use mathlib.Core.Path.{◌≡◌}
 use Prim.Native.Nat.{◌-◌, ◌≤◌}
-use native.Mathlib.Omega.{arith}
-use borrow.Author.Rules.{rules}
 use lib.ListN.{length}
 use Rattle.apages.specs.Bits.{set_run}
-use Rattle.apages.proofs.ByteLaws.{run-next}
-use Rattle.apages.proofs.RunLaws.{run_none, run-done}
 use Rattle.apages.proofs.set_run.Given as goal
 
 abbrev pub invariant-loop-i : goal.invariant-loop-i

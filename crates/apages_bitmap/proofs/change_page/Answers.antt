@@ -6,7 +6,6 @@ use Rattle.words.proofs.SpliceLaws.{part-back}
 use Rattle.sectors.specs.Sectors.{sec, set_sec}
 use Rattle.sectors.proofs.SectorLaws.{sec-part, sec-length}
 use Rattle.apages.proofs.RunLaws.{set_run-length}
-use borrow.Author.Rules.{rules}
 use Rattle.apages_bitmap.proofs.change_page.Goals as goal
 
 pub returns : goal.returns

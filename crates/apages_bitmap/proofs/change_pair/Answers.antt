@@ -6,7 +6,6 @@ use Rattle.counts.proofs.TableLaws.{pages-few, dir-is}
 use Rattle.apages.specs.Index.{index_in}
 use Rattle.apages.proofs.PageLaws.{before-page}
 use Rattle.apages.proofs.ChangeLaws.{run-written}
-use borrow.Author.Rules.{rules}
 use Rattle.apages_bitmap.proofs.change_pair.Goals as goal
 
 pub put_group-requires : goal.put_group-requires

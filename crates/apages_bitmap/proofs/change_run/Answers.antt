@@ -7,7 +7,6 @@ use lib.ListN.{take, drop}
 use Rattle.counts.proofs.TableLaws.{pages-few}
 use Rattle.apages.specs.Index.{index_of}
 use Rattle.apages.proofs.ChangeLaws.{run_none, change-named, run-some}
-use borrow.Author.Rules.{rules}
 use Rattle.apages_bitmap.proofs.change_run.Goals as goal
 
 -- a run that changes lies in a page that there is

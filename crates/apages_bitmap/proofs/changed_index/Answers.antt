@@ -1,6 +1,5 @@
 -- Each of the two sectors by the rule for what becomes old. Assumes nothing.
 use Rattle.apages.proofs.IndexLaws.{changed-text}
-use borrow.Author.Rules.{rules}
 use Rattle.apages_bitmap.proofs.changed_index.Goals as goal
 
 pub returns : goal.returns

@@ -4,7 +4,6 @@ use mathlib.Core.List.{List}
 use Prim.Native.Nat.{ℕ}
 use Rattle.sectors.specs.Sectors.{sec, set_sec}
 use Rattle.sectors.proofs.SectorLaws.{sec-part, set_sec-own}
-use borrow.Author.Rules.{rules}
 use Rattle.apages_bitmap.proofs.copy_page.Goals as goal
 
 pub returns-then-from-to : goal.returns-then-from-to

@@ -1,6 +1,5 @@
 -- The three cases of the definition. Assumes nothing.
 use Rattle.apages.specs.Index.{page_before}
-use borrow.Author.Rules.{rules}
 use Rattle.apages_bitmap.proofs.page_before.Goals as goal
 
 pub returns-in-Own : goal.returns-in-Own

@@ -1,6 +1,5 @@
 -- The three cases of the definition. Assumes nothing.
 use Rattle.counts.specs.Stamps.{becomes_old}
-use borrow.Author.Rules.{rules}
 use Rattle.apages_bitmap.proofs.swapped.Goals as goal
 
 pub returns-in-Own : goal.returns-in-Own

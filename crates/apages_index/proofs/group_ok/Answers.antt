@@ -1,6 +1,5 @@
 -- The calls' answers together are the definition. Assumes nothing.
 use Rattle.apages.proofs.ChangeLaws.{group-tested}
-use borrow.Author.Rules.{rules}
 use Rattle.apages_index.proofs.group_ok.Goals as goal
 
 pub returns : goal.returns

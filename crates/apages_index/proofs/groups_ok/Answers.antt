@@ -1,13 +1,7 @@
 -- In the loop the answer is that for the groups that are left. Assumes nothing.
 use mathlib.Core.Bool.{not}
-use mathlib.Core.Path.{◌≡◌, ap}
-use Prim.Native.Nat.{◌-◌, ◌≤◌}
+use mathlib.Core.Path.{ap}
 use native.Mathlib.Omega.{arith}
-use borrow.Author.Rules.{rules}
-use Rattle.sectors.specs.Sectors.{sec}
-use Rattle.counts.specs.Geometry.{g_p}
-use Rattle.counts.specs.Stamps.{table_in}
-use Rattle.apages.specs.Index.{group_ok, every_group}
 use Rattle.apages.proofs.ChangeLaws.{group-part, groups-start, groups-stop, groups-go, groups-end}
 use Rattle.apages_index.proofs.groups_ok.Goals as goal
 

@@ -1,13 +1,10 @@
 -- In the loop the answer is that for the groups that are left. Assumes nothing.
 use mathlib.Core.Path.{◌≡◌}
 use Prim.Native.Nat.{◌-◌, ◌≤◌}
-use native.Mathlib.Omega.{arith}
-use borrow.Author.Rules.{rules}
 use Rattle.sectors.specs.Sectors.{sec}
 use Rattle.counts.specs.Geometry.{g_p}
 use Rattle.counts.specs.Stamps.{table_in}
 use Rattle.apages.specs.Index.{group_ok, every_group}
-use Rattle.apages.proofs.ChangeLaws.{group-part, groups-start, groups-stop, groups-go, groups-end}
 use Rattle.apages_index.proofs.groups_ok.Given as goal
 
 abbrev pub invariant-loop-p : goal.invariant-loop-p

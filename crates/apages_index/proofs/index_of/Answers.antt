@@ -1,6 +1,5 @@
 -- Four words of the bytes. Assumes nothing.
 use Rattle.apages.specs.Index.{index_of}
-use borrow.Author.Rules.{rules}
 use Rattle.apages_index.proofs.index_of.Goals as goal
 
 pub returns : goal.returns

@@ -6,7 +6,6 @@ use lib.ListN.{take, drop, length-drop}
 use lib.Seq.{take_all}
 use Rattle.words.specs.Lists.{every, is_zero}
 use Rattle.apages.proofs.ChangeLaws.{index-tested}
-use borrow.Author.Rules.{rules}
 use Rattle.apages_index.proofs.index_ok.Goals as goal
 
 pub returns : goal.returns

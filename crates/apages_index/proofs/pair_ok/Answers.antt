@@ -1,6 +1,5 @@
 -- The test is the definition. Assumes nothing.
 use Rattle.apages.specs.Index.{pair_ok}
-use borrow.Author.Rules.{rules}
 use Rattle.apages_index.proofs.pair_ok.Goals as goal
 
 pub returns : goal.returns

@@ -1,7 +1,6 @@
 -- Four words one after the other. Assumes nothing.
 use Rattle.words.proofs.WordLaws.{four-words}
 use Rattle.apages.specs.Index.{group_bytes}
-use borrow.Author.Rules.{rules}
 use Rattle.apages_index.proofs.put_group.Goals as goal
 
 pub returns : goal.returns

@@ -1,6 +1,5 @@
 -- A or B by the stamp's life. Assumes nothing.
 use Rattle.apages.proofs.ChangeLaws.{page-new, page-old}
-use borrow.Author.Rules.{rules}
 use Rattle.apages_index.proofs.shown_page.Goals as goal
 
 pub returns-then-alive : goal.returns-then-alive

@@ -1,6 +1,5 @@
 -- The bits that are not set. Assumes nothing.
 use native.Mathlib.Omega.{arith}
-use borrow.Author.Rules.{rules}
 use Rattle.apages.proofs.OnesLaws.{set-clear}
 use Rattle.apages_ones.proofs.count_clear.Goals as goal
 

@@ -1,9 +1,9 @@
 -- The loop's invariant: the ones of the words passed, of both pages taken together, are counted. Assumes nothing.
-use mathlib.Core.Path.{◌≡◌, sym, ap, ◌∙◌}
-use Prim.Native.Nat.{ℕ, ◌-◌, ◌*◌, ◌%◌, ◌≤◌, ◌<◌}
+use mathlib.Core.Path.{sym, ap, ◌∙◌}
+use Prim.Native.Nat.{ℕ, ◌<◌}
 use native.Mathlib.Omega.{arith}
 use borrow.Author.Rules.{rules}
-use lib.ListN.{length, get_or}
+use lib.ListN.{get_or}
 use Rattle.words_sums.specs.Sums.{total}
 use Rattle.words_sums.proofs.SumLaws.{total-none}
 use Rattle.apages.specs.Bits.{bit_at}
@@ -19,7 +19,7 @@ pub loop-at-preserved : goal.loop-at-preserved
 loop-at-preserved c =
     let p = c.args.p.now in
     let q = c.args.q.now in
-    let ps : (j : ℕ) → get_or p j 0 < 256 = λ j. omega (arith, c.shared_slice_known-1.given j) in
+    let ps : (j : ℕ) → get_or p j 0 < 256 = λ j. omega (arith, c.type_inv.p j) in
     let qs : (j : ℕ) → get_or q j 0 < 256 = λ j. omega (arith, c.shared_slice_known-2-1.given j) in (
       omega arith,
       omega arith,

@@ -1,15 +1,10 @@
 -- The loop's invariant: the ones of the words passed, of both pages taken together, are counted. Assumes nothing.
-use mathlib.Core.Path.{◌≡◌, sym, ap, ◌∙◌}
-use Prim.Native.Nat.{ℕ, ◌-◌, ◌*◌, ◌%◌, ◌≤◌, ◌<◌}
-use native.Mathlib.Omega.{arith}
-use borrow.Author.Rules.{rules}
-use lib.ListN.{length, get_or}
+use mathlib.Core.Path.{◌≡◌}
+use Prim.Native.Nat.{◌-◌, ◌*◌, ◌%◌, ◌≤◌}
+use lib.ListN.{length}
 use Rattle.words_sums.specs.Sums.{total}
-use Rattle.words_sums.proofs.SumLaws.{total-none}
 use Rattle.apages.specs.Bits.{bit_at}
 use Rattle.apages.specs.Inner.{either}
-use Rattle.apages.proofs.Either.{either-length, either-more}
-use Rattle.apages.specs.Ones.{set_bits}
 use Rattle.apages_ones.proofs.either_set.Given as goal
 
 abbrev pub invariant-loop-at : goal.invariant-loop-at

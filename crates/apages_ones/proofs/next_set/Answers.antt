@@ -2,7 +2,6 @@
 use mathlib.Core.Path.{sym, ◌∙◌}
 use Prim.Native.Nat.{◌+◌, ◌/◌, ◌%◌}
 use native.Mathlib.Omega.{arith}
-use borrow.Author.Rules.{rules}
 use borrow.Author.Tests.{eqb-true, leb-true}
 use lib.Dec.{eqb, leb}
 use lib.ListN.{get_or}
@@ -20,7 +19,7 @@ pub returns-then-word64 : goal.returns-then-word64
 returns-then-word64 c =
     let a = c.args in
     let (x, y) = both (eqb (a.n % 64) 0) (leb (a.n + 64) a.end) c.if-n-end.true in
-    (word_set a.p.now (λ j. omega (arith, c.shared_slice_known-1.given j)) _ (eqb-true _ _ x) (sym c.word64.ensures ∙ c.if-word64.true), leb-true _ _ y, λ e. absurd (omega arith))
+    (word_set a.p.now (λ j. omega (arith, c.type_inv.p j)) _ (eqb-true _ _ x) (sym c.word64.ensures ∙ c.if-word64.true), leb-true _ _ y, λ e. absurd (omega arith))
 
 pub returns-then-n-end-2 : goal.returns-then-n-end-2
 returns-then-n-end-2 c =

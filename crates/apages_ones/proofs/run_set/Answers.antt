@@ -1,9 +1,6 @@
 -- The loop's invariant: the answer for the bits that are left. Assumes nothing.
-use mathlib.Core.Path.{◌≡◌}
-use Prim.Native.Nat.{◌+◌, ◌-◌, ◌≤◌}
 use native.Mathlib.Omega.{arith}
 use borrow.Author.Rules.{rules}
-use Rattle.apages.specs.Ones.{all_set}
 use Rattle.apages.proofs.OnesLaws.{all_start, all_go, all-stop, all_end}
 use Rattle.apages_ones.proofs.run_set.Goals as goal
 

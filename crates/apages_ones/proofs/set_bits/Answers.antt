@@ -1,9 +1,8 @@
 -- The loop's invariant: the ones of the words passed are counted. Assumes nothing.
-use mathlib.Core.Path.{◌≡◌, sym, ap, ◌∙◌}
-use Prim.Native.Nat.{ℕ, ◌-◌, ◌*◌, ◌%◌, ◌≤◌}
+use mathlib.Core.Path.{sym, ap, ◌∙◌}
+use Prim.Native.Nat.{ℕ}
 use native.Mathlib.Omega.{arith}
 use borrow.Author.Rules.{rules}
-use lib.ListN.{length}
 use Rattle.words_sums.specs.Sums.{total}
 use Rattle.words_sums.proofs.SumLaws.{total-none}
 use Rattle.apages.specs.Bits.{bit_at}
@@ -18,7 +17,7 @@ pub loop-at-preserved : goal.loop-at-preserved
 loop-at-preserved c =
     let p = c.args.p.now in
     let more = c.ones_of-sum.ensures.0 ∙ ap ones_of c.word64.ensures in
-    (omega arith, omega arith, ones-more p (λ j. omega (arith, c.shared_slice_known-1.given j)) _ _ c.loop-at.invariant.2 more, omega arith)
+    (omega arith, omega arith, ones-more p (λ j. omega (arith, c.type_inv.p j)) _ _ c.loop-at.invariant.2 more, omega arith)
 
 pub returns : goal.returns
 unfolding set_bits

@@ -1,14 +1,9 @@
 -- The loop's invariant: the ones of the words passed are counted. Assumes nothing.
-use mathlib.Core.Path.{◌≡◌, sym, ap, ◌∙◌}
-use Prim.Native.Nat.{ℕ, ◌-◌, ◌*◌, ◌%◌, ◌≤◌}
-use native.Mathlib.Omega.{arith}
-use borrow.Author.Rules.{rules}
+use mathlib.Core.Path.{◌≡◌}
+use Prim.Native.Nat.{◌-◌, ◌*◌, ◌%◌, ◌≤◌}
 use lib.ListN.{length}
 use Rattle.words_sums.specs.Sums.{total}
-use Rattle.words_sums.proofs.SumLaws.{total-none}
 use Rattle.apages.specs.Bits.{bit_at}
-use Rattle.apages.specs.Ones.{ones_of, set_bits}
-use Rattle.apages.proofs.OnesLaws.{ones-more}
 use Rattle.apages_ones.proofs.set_bits.Given as goal
 
 abbrev pub invariant-loop-at : goal.invariant-loop-at

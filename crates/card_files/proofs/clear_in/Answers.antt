@@ -1,13 +1,5 @@
 -- The loop's invariant: the clear bits of the pages passed are counted. Assumes nothing.
-use mathlib.Core.Path.{◌≡◌}
-use Prim.Native.Nat.{◌+◌, ◌-◌, ◌*◌, ◌≤◌}
 use native.Mathlib.Omega.{arith}
-use borrow.Author.Rules.{rules}
-use Rattle.sectors.specs.Sectors.{sec}
-use Rattle.counts.specs.Geometry.{g_p}
-use Rattle.counts.specs.Stamps.{table_in}
-use Rattle.apages.specs.Bits.{clear_bits}
-use Rattle.apages.specs.Index.{map_from, page_in}
 use Rattle.card.proofs.ViewLaws.{page-room, clear-start, clear-page, clear-turn, clear-end}
 use Rattle.card_files.proofs.clear_in.Goals as goal
 

@@ -1,15 +1,11 @@
 -- The loop's invariant: the files counted and those left make the whole. Assumes nothing.
 use mathlib.Core.Path.{◌≡◌}
 use Prim.Native.Nat.{◌+◌, ◌-◌, ◌*◌, ◌≤◌}
-use native.Mathlib.Omega.{arith}
 use lib.ListN.{length, drop}
-use borrow.Author.Rules.{rules}
 use Rattle.sectors.specs.Sectors.{sec}
 use Rattle.counts.specs.Stamps.{table_in}
 use Rattle.directory.specs.Directory.{entries_of}
-use Rattle.directory.proofs.DirectoryLaws.{entries-lt, entries-le}
 use Rattle.card.specs.Files.{files_of}
-use Rattle.card.proofs.LineLaws.{count-go, count-end}
 use Rattle.card_files.proofs.file_count.Given as goal
 
 abbrev pub invariant-loop-j : goal.invariant-loop-j

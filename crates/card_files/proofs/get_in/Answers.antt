@@ -1,7 +1,6 @@
 -- One answer of the definition for each way through the tests. Assumes nothing.
 use mathlib.Core.Bool.{not}
 use mathlib.Core.Path.{ap}
-use borrow.Author.Rules.{rules}
 use Rattle.directory.proofs.DirectoryLaws.{entries-length}
 use Rattle.card.proofs.LineLaws.{found_lt}
 use Rattle.card.proofs.ReadLaws.{got-name, got-none, got-found}

@@ -1,6 +1,5 @@
 -- The bytes lent are those of entry j. Assumes nothing.
 use mathlib.Core.Path.{ap, ◌∙◌}
-use borrow.Author.Rules.{rules}
 use Rattle.card.proofs.LineLaws.{line-here}
 use Rattle.card.specs.Inner.{line_of}
 use Rattle.card_files.proofs.line_at.Goals as goal

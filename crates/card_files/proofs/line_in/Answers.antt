@@ -1,14 +1,9 @@
 -- The loop's invariant: the line looked for is at a position of the files that are left. Assumes nothing.
-use mathlib.Core.Path.{◌≡◌, refl, ◌∙◌}
-use Prim.Native.Nat.{◌-◌, ◌*◌, ◌≤◌}
+use mathlib.Core.Path.{refl, ◌∙◌}
 use native.Mathlib.Omega.{arith}
-use lib.ListN.{drop, get_or}
 use borrow.Author.Rules.{rules}
-use Rattle.sectors.specs.Sectors.{sec}
-use Rattle.counts.specs.Stamps.{table_in}
-use Rattle.directory.specs.Directory.{entries_of}
 use Rattle.directory.proofs.DirectoryLaws.{entries-lt, entries-le}
-use Rattle.card.specs.Files.{files_of, no_line, run_at}
+use Rattle.card.specs.Files.{run_at}
 use Rattle.card.proofs.LineLaws.{line-stop, line-go, line-end}
 use Rattle.card_files.proofs.line_in.Goals as goal
 

@@ -1,5 +1,4 @@
 -- The fields of the line, one by one. Assumes nothing.
-use borrow.Author.Rules.{rules}
 use Rattle.entries.specs.Entries.{name_bytes}
 use Rattle.card.specs.Inner.{line_of}
 use Rattle.card_files.proofs.line_of.Goals as goal

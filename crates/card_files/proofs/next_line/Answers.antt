@@ -1,14 +1,8 @@
 -- The loop's invariant: the files from the first entry on are those that are left. Assumes nothing.
-use mathlib.Core.Path.{◌≡◌, refl}
-use Prim.Native.Nat.{◌-◌, ◌*◌}
+use mathlib.Core.Path.{refl}
 use native.Mathlib.Omega.{arith}
-use lib.ListN.{drop}
-use borrow.Author.Rules.{rules}
-use Rattle.sectors.specs.Sectors.{sec}
-use Rattle.counts.specs.Stamps.{table_in}
-use Rattle.directory.specs.Directory.{entries_of}
 use Rattle.directory.proofs.DirectoryLaws.{entries-lt, entries-le}
-use Rattle.card.specs.Files.{files_of, run_at}
+use Rattle.card.specs.Files.{run_at}
 use Rattle.card_files.proofs.NextLaws.{next-stop, next-go, next-end}
 use Rattle.card_files.proofs.next_line.Goals as goal
 

@@ -1,5 +1,4 @@
 -- The fields, one by one. Assumes nothing.
-use borrow.Author.Rules.{rules}
 use Rattle.card.specs.Inner.{no_lined}
 use Rattle.card_files.proofs.no_lined.Goals as goal
 

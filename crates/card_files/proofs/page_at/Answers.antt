@@ -2,7 +2,6 @@
 use native.Mathlib.Omega.{arith}
 use Rattle.counts.proofs.TableLaws.{pages-few}
 use Rattle.card.proofs.ViewLaws.{page-here}
-use borrow.Author.Rules.{rules}
 use Rattle.card_files.proofs.page_at.Goals as goal
 
 pub slice_bounds-shown_page-end : goal.slice_bounds-shown_page-end

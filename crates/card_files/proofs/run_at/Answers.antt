@@ -1,5 +1,4 @@
 -- The bytes lent are those of entry j. Assumes nothing.
-use borrow.Author.Rules.{rules}
 use Rattle.card.proofs.LineLaws.{run-here}
 use Rattle.card_files.proofs.run_at.Goals as goal
 

@@ -1,5 +1,4 @@
 -- One case of the definition in each arm. Assumes nothing.
-use borrow.Author.Rules.{rules}
 use Rattle.card.specs.Files.{run_of}
 use Rattle.card_files.proofs.run_of.Goals as goal
 

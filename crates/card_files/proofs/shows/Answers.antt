@@ -1,5 +1,4 @@
 -- The bytes lent are those of entry j. Assumes nothing.
-use borrow.Author.Rules.{rules}
 use Rattle.card.proofs.LineLaws.{shows-here}
 use Rattle.card_files.proofs.shows.Goals as goal
 

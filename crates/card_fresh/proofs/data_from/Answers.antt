@@ -1,6 +1,5 @@
 -- F lies in page 0. Assumes nothing.
 use native.Mathlib.Omega.{arith}
-use borrow.Author.Rules.{rules}
 use Rattle.counts.specs.Geometry.{g_p, g_dir, g_f}
 use Rattle.apages.specs.Runs.{data_from}
 use Rattle.card_fresh.proofs.data_from.Goals as goal

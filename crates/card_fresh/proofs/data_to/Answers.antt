@@ -1,6 +1,5 @@
 -- The page ends where the data does, or before. Assumes nothing.
 use native.Mathlib.Omega.{arith}
-use borrow.Author.Rules.{rules}
 use Rattle.counts.specs.Geometry.{g_p}
 use Rattle.apages.specs.Runs.{data_to}
 use Rattle.card_fresh.proofs.data_to.Goals as goal

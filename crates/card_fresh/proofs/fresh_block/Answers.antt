@@ -1,5 +1,4 @@
 -- Four words put into a fresh sector. Assumes nothing.
-use borrow.Author.Rules.{rules}
 use Rattle.card.proofs.BuiltLaws.{block-built}
 use Rattle.card_fresh.proofs.fresh_block.Goals as goal
 

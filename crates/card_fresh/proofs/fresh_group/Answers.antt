@@ -1,7 +1,6 @@
 -- Stamp 0, 0, and the two sectors of its pair. Assumes nothing.
 use mathlib.Core.Path.{ap, ◌∙◌}
 use Prim.Native.Nat.{ℕ}
-use borrow.Author.Rules.{rules}
 use Rattle.counts.specs.declared.Stamp.{Stamp}
 use Rattle.counts.specs.Geometry.{pair_low}
 use Rattle.card.specs.Make.{fresh_group}

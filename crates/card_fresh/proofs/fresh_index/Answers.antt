@@ -1,9 +1,6 @@
 -- The loop's invariant: the groups before p are written. Assumes nothing.
 use mathlib.Core.Path.{◌≡◌, refl}
-use Prim.Native.Nat.{◌-◌, ◌≤◌}
 use native.Mathlib.Omega.{arith}
-use borrow.Author.Rules.{rules}
-use lib.ListN.{length}
 use Rattle.words.specs.Lists.{pad}
 use Rattle.counts.specs.Geometry.{g_p}
 use Rattle.card.specs.Make.{fresh_groups, fresh_index}

@@ -1,13 +1,10 @@
 -- The loop's invariant: the groups before p are written. Assumes nothing.
-use mathlib.Core.Path.{◌≡◌, refl}
+use mathlib.Core.Path.{◌≡◌}
 use Prim.Native.Nat.{◌-◌, ◌≤◌}
-use native.Mathlib.Omega.{arith}
-use borrow.Author.Rules.{rules}
 use lib.ListN.{length}
 use Rattle.words.specs.Lists.{pad}
 use Rattle.counts.specs.Geometry.{g_p}
-use Rattle.card.specs.Make.{fresh_groups, fresh_index}
-use Rattle.card.proofs.MakeLaws.{group-turn}
+use Rattle.card.specs.Make.{fresh_groups}
 use Rattle.card_fresh.proofs.fresh_index.Given as goal
 
 abbrev pub invariant-loop-p : goal.invariant-loop-p

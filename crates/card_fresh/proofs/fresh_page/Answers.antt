@@ -1,5 +1,4 @@
 -- Two runs of bits set in a page of zeros. Assumes nothing.
-use borrow.Author.Rules.{rules}
 use Rattle.card.proofs.FreshPage.{fresh-built}
 use Rattle.card_fresh.proofs.fresh_page.Goals as goal
 

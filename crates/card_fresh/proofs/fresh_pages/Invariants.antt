@@ -1,13 +1,9 @@
 -- The loop's invariant: what is left to write makes the pages of all pairs. Assumes nothing.
-use mathlib.Core.Path.{◌≡◌, refl}
+use mathlib.Core.Path.{◌≡◌}
 use Prim.Native.Nat.{◌-◌, ◌≤◌}
-use native.Mathlib.Omega.{arith}
-use borrow.Author.Rules.{rules}
 use lib.ListN.{length}
 use Rattle.counts.specs.Geometry.{g_p}
-use Rattle.counts.proofs.TableLaws.{dir-is}
 use Rattle.card.specs.Make.{fresh_pages}
-use Rattle.card.proofs.MakeLaws.{fresh-turn, fresh-end}
 use Rattle.card_fresh.proofs.fresh_pages.Given as goal
 
 abbrev pub invariant-loop-p : goal.invariant-loop-p

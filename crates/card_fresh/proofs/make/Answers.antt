@@ -2,7 +2,6 @@
 use mathlib.Core.Bool.{not}
 use mathlib.Core.Path.{sym, ◌∙◌, ap}
 use borrow.Author.Tests.{not-false}
-use borrow.Author.Rules.{rules}
 use Rattle.counts.proofs.TableLaws.{ok-laid}
 use Rattle.card.proofs.MakeLaws.{make-geo, make-size, make-done}
 use Rattle.card_fresh.proofs.make.Goals as goal

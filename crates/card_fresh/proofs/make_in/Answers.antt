@@ -1,6 +1,5 @@
 -- Block, index and pages written over zeros. Assumes nothing.
 use mathlib.Core.Path.{refl, ◌∙◌}
-use borrow.Author.Rules.{rules}
 use Rattle.card.proofs.MakeLaws.{fresh_start}
 use Rattle.card_fresh.proofs.make_in.Goals as goal
 

@@ -1,5 +1,4 @@
 -- The block is built, then written. Assumes nothing.
-use borrow.Author.Rules.{rules}
 use Rattle.card_fresh.proofs.put_block.Goals as goal
 
 pub returns : goal.returns

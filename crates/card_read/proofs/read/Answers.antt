@@ -2,7 +2,6 @@
 use mathlib.Core.Bool.{not}
 use mathlib.Core.Path.{sym, ◌∙◌, ap}
 use borrow.Author.Tests.{not-false}
-use borrow.Author.Rules.{rules}
 use Rattle.card.proofs.ReadLaws.{shape-read, sound-read}
 use Rattle.card_read.proofs.read.Goals as goal
 

@@ -2,7 +2,6 @@
 use mathlib.Core.Bool.{not}
 use mathlib.Core.Path.{sym, ◌∙◌, ap}
 use borrow.Author.Tests.{not-false}
-use borrow.Author.Rules.{rules}
 use Rattle.card.proofs.ReadLaws.{shape-get, sound-get}
 use Rattle.card_read.proofs.read_get.Goals as goal
 

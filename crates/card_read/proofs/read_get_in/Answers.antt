@@ -1,5 +1,4 @@
 -- Both tests passed, so get is over the view that takes the table as it is. Assumes nothing.
-use borrow.Author.Rules.{rules}
 use Rattle.card.proofs.SoundTests.{shape-length, shape-laid, shape-limits, shape-room, sound-runs}
 use Rattle.card.proofs.ReadLaws.{get-done}
 use Rattle.card_read.proofs.read_get_in.Goals as goal

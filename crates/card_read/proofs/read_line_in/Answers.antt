@@ -1,5 +1,4 @@
 -- Both tests passed, so the line is of the files shown. Assumes nothing.
-use borrow.Author.Rules.{rules}
 use Rattle.card.proofs.SoundTests.{shape-length, shape-laid, shape-limits}
 use Rattle.card.proofs.ReadLaws.{line-done}
 use Rattle.card_read.proofs.read_line_in.Goals as goal

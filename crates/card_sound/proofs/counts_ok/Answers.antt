@@ -1,7 +1,6 @@
 -- The zeros first, then C and the table. Assumes nothing.
 use mathlib.Core.Bool.{not}
 use mathlib.Core.Path.{ap}
-use borrow.Author.Rules.{rules}
 use Rattle.card.proofs.SoundTests.{counts-no, counts-here}
 use Rattle.card_sound.proofs.counts_ok.Goals as goal
 

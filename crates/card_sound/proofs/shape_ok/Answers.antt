@@ -1,7 +1,6 @@
 -- Too short, a geometry outside the limits, or the length decides. Assumes nothing.
 use mathlib.Core.Bool.{not}
 use mathlib.Core.Path.{ap}
-use borrow.Author.Rules.{rules}
 use Rattle.card.proofs.SoundTests.{shape-short, shape-geo, shape_size}
 use Rattle.card_sound.proofs.shape_ok.Goals as goal
 

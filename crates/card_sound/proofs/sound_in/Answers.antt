@@ -1,7 +1,6 @@
 -- Counts, view, names: the first test that fails decides. Assumes nothing.
 use mathlib.Core.Bool.{not}
 use mathlib.Core.Path.{ap}
-use borrow.Author.Rules.{rules}
 use Rattle.card.proofs.SoundTests.{head-count, sound-counts, sound-unseen, sound-names}
 use Rattle.card_sound.proofs.sound_in.Goals as goal
 

@@ -1,7 +1,6 @@
 -- Index, entries, page: the first test that fails decides. Assumes nothing.
 use mathlib.Core.Bool.{not}
 use mathlib.Core.Path.{ap}
-use borrow.Author.Rules.{rules}
 use Rattle.card.proofs.ViewLaws.{view-index, view-pair, view-entries, view-page, view-runs}
 use Rattle.card_sound.proofs.view_ok.Goals as goal
 

@@ -1,7 +1,6 @@
 -- By the definition. Assumes nothing.
 use native.Mathlib.Omega.{arith}
 use Rattle.card.specs.Tally.{fixed_bits}
-use borrow.Author.Rules.{rules}
 use Rattle.card_tally.proofs.fixed_bits.Goals as goal
 
 pub returns-then-g-first : goal.returns-then-g-first

@@ -2,7 +2,6 @@
 use native.Mathlib.Omega.{arith}
 use Rattle.card.proofs.ViewLaws.{page-room}
 use Rattle.card.proofs.TallyPages.{held_none, held-lent}
-use borrow.Author.Rules.{rules}
 use Rattle.card_tally.proofs.held.Goals as goal
 
 pub returns-then-k-eq0 : goal.returns-then-k-eq0

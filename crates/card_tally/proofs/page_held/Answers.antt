@@ -1,6 +1,5 @@
 -- The page is a sector of the image. Assumes nothing.
 use Rattle.sectors.proofs.SectorLaws.{sec-part}
-use borrow.Author.Rules.{rules}
 use Rattle.card_tally.proofs.page_held.Goals as goal
 
 pub returns : goal.returns

@@ -2,7 +2,6 @@
 use native.Mathlib.Omega.{arith}
 use Rattle.counts.proofs.TableLaws.{pages-cover, dir-is}
 use Rattle.card.proofs.TallyPages.{clear-fits, tally-pages, last-page}
-use borrow.Author.Rules.{rules}
 use Rattle.card_tally.proofs.pages_ok.Goals as goal
 
 pub held-low-requires : goal.held-low-requires
@@ -22,7 +21,7 @@ fixed_bits-requires c = (record { s = c.requires.0.s; t = c.requires.0.t; d = c.
 
 pub returns : goal.returns
 returns c = let t = c.tally_of-t.ensures in
-    tally-pages c.args.g _ c.args.card.now c.requires.0 c.requires.1.0 (λ i. omega (arith, c.shared_slice_known-1.given i)) _ c.requires.1.1
+    tally-pages c.args.g _ c.args.card.now c.requires.0 c.requires.1.0 (λ i. omega (arith, c.type_inv.card i)) _ c.requires.1.1
     c.data_first-first.ensures.0 c.data_first-first.ensures.1 c.pairs-bits.ensures.0
     c.held-low.ensures c.held-high.ensures t.0 c.runs_apart-apart.ensures
     c.clear_in.ensures c.fixed_bits.ensures.0 t.1.0

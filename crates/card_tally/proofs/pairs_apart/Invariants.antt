@@ -1,21 +1,14 @@
 -- The loop's invariant: no two runs of the entries passed meet, and the files of those before `rest` start at `low` or past it. Assumes nothing.
-use mathlib.Core.Path.{◌≡◌, refl, sym}
+use mathlib.Core.Path.{◌≡◌}
 use mathlib.Core.Bool.{true}
-use mathlib.Core.List.{[]}
-use mathlib.Core.Logic.{inl, inr, ⊎_elim}
-use Prim.Native.Nat.{◌+◌, ◌-◌, ◌*◌, ◌≤◌}
-use native.Mathlib.Omega.{arith}
-use borrow.Author.Rules.{rules}
+use Prim.Native.Nat.{◌*◌, ◌≤◌}
 use lib.ListN.{drop}
 use Rattle.words.specs.Lists.{pairwise}
-use Rattle.words.proofs.EveryLaws.{pair_end}
 use Rattle.sectors.specs.Sectors.{sec}
 use Rattle.counts.specs.Stamps.{table_in}
 use Rattle.directory.specs.Directory.{entries_of}
-use Rattle.directory.proofs.DirectoryLaws.{entries-lt, entries-le}
-use Rattle.card.specs.Files.{run_at}
 use Rattle.card.specs.Tally.{parted_in}
-use Rattle.card.proofs.TallyTests.{Rising, run-below, empty-row, empty-rising, row-stop, row-go, row-rising}
+use Rattle.card.proofs.TallyTests.{Rising}
 use Rattle.card_tally.proofs.pairs_apart.Given as goal
 
 abbrev pub invariant-loop-i : goal.invariant-loop-i

@@ -1,13 +1,12 @@
 -- The loop's invariant: the answer is what was seen so far, and that for the entries that are left. Assumes nothing.
-use mathlib.Core.Path.{◌≡◌, refl}
-use mathlib.Core.Bool.{◌&&◌, ◌||◌}
+use mathlib.Core.Path.{refl}
+use mathlib.Core.Bool.{◌||◌}
 use mathlib.Core.List.{[]}
-use Prim.Native.Nat.{◌+◌, ◌-◌, ◌*◌, ◌≤◌}
+use Prim.Native.Nat.{◌+◌}
 use native.Mathlib.Omega.{arith}
 use borrow.Author.Rules.{rules}
 use lib.Dec.{leb}
-use lib.ListN.{drop, get_or}
-use Rattle.words.specs.Lists.{every}
+use lib.ListN.{get_or}
 use Rattle.words.proofs.EveryLaws.{seen-go, seen_end}
 use Rattle.sectors.specs.Sectors.{sec}
 use Rattle.counts.specs.Stamps.{table_in}

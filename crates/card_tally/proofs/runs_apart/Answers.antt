@@ -1,5 +1,4 @@
 -- Runs one after another with all sectors of the files do not meet. Assumes nothing.
-use borrow.Author.Rules.{rules}
 use Rattle.card_order.proofs.Turns.{turns-apart}
 use Rattle.card_tally.proofs.runs_apart.Goals as goal
 

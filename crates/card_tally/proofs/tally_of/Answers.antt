@@ -1,12 +1,9 @@
 -- The loop's invariant: the answer is what was seen so far and that for the entries that are left, the sectors counted and theirs make the whole, the walk is one over
 -- runs of the files, and the page kept is one that the view shows. Assumes nothing.
-use mathlib.Core.Path.{◌≡◌, refl}
-use mathlib.Core.Bool.{◌&&◌}
+use mathlib.Core.Path.{refl}
 use mathlib.Core.List.{[]}
-use Prim.Native.Nat.{◌+◌, ◌-◌, ◌*◌, ◌≤◌}
 use native.Mathlib.Omega.{arith}
-use lib.ListN.{drop, get_or}
-use Rattle.words.specs.Lists.{every}
+use lib.ListN.{get_or}
 use Rattle.words.proofs.EveryLaws.{seen-go, seen_end}
 use Rattle.sectors.specs.Sectors.{sec}
 use Rattle.counts.specs.Stamps.{table_in}
@@ -14,13 +11,11 @@ use Rattle.counts.proofs.TableLaws.{pages-cover, dir-is}
 use Rattle.directory.specs.Directory.{entries_of}
 use Rattle.directory.proofs.DirectoryLaws.{entries-lt, entries-le}
 use Rattle.apages.specs.Index.{page_in}
-use Rattle.card.specs.Files.{files_of, sectors_of, run_at}
+use Rattle.card.specs.Files.{run_at}
 use Rattle.card.specs.Tally.{held_by}
 use Rattle.card.proofs.TallyTests.{run-below, run-paged, held-here, sectors-next, sectors-end}
-use Rattle.card_order.specs.Inner.{Walked}
 use Rattle.card_order.proofs.Turns.{entry-held, walk_none, walk-next}
 use borrow.Author.Rules.{rules}
-use Rattle.card_tally.specs.Inner.{IsShown}
 use Rattle.card_tally.proofs.Pages.{kept-room, kept-held}
 use Rattle.card_tally.proofs.tally_of.Goals as goal
 

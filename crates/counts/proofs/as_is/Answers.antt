@@ -1,6 +1,5 @@
 -- `counts::as_is` meets its contract: straight. Assumes nothing.
 use Rattle.counts.specs.Stamps.{as_is}
-use borrow.Author.Rules.{rules}
 use Rattle.counts.proofs.as_is.Goals as goal
 
 pub returns : goal.returns

@@ -1,7 +1,6 @@
 -- The definition, unfolded. Assumes nothing.
 use mathlib.Core.Path.{refl}
 use Rattle.counts.specs.Geometry.{g_n}
-use borrow.Author.Rules.{rules}
 use Rattle.counts.proofs.crash_counts.Goals as goal
 
 pub returns : goal.returns

@@ -1,6 +1,5 @@
 -- `counts::data_first` meets its contract. Assumes nothing.
 use native.Mathlib.Omega.{arith}
-use borrow.Author.Rules.{rules}
 use Rattle.counts.proofs.TableLaws.{dir-data}
 use Rattle.counts.proofs.data_first.Goals as goal
 

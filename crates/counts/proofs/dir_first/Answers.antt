@@ -1,6 +1,5 @@
 -- `counts::dir_first` meets its contract. Assumes nothing.
 use native.Mathlib.Omega.{arith}
-use borrow.Author.Rules.{rules}
 use Rattle.counts.proofs.TableLaws.{dir-is}
 use Rattle.counts.proofs.dir_first.Goals as goal
 

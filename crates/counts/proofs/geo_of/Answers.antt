@@ -1,5 +1,4 @@
 -- `counts::geo_of` meets its contract: its three words are those of sector 0. Assumes nothing.
-use borrow.Author.Rules.{rules}
 use Rattle.counts.proofs.TableLaws.{geo-here}
 use Rattle.counts.proofs.geo_of.Goals as goal
 

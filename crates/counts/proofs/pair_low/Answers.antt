@@ -1,7 +1,6 @@
 -- `counts::pair_low` meets its contract: there are at most 16 pairs. Assumes nothing.
 use mathlib.Core.Path.{refl}
 use native.Mathlib.Omega.{arith}
-use borrow.Author.Rules.{rules}
 use Rattle.counts.proofs.TableLaws.{pages-few}
 use Rattle.counts.proofs.pair_low.Goals as goal
 

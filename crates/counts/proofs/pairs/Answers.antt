@@ -1,7 +1,6 @@
 -- `counts::pairs` meets its contract: the quotient is P, at most 16. Assumes nothing.
 use mathlib.Core.Path.{refl}
 use native.Mathlib.Omega.{arith}
-use borrow.Author.Rules.{rules}
 use Rattle.counts.specs.Geometry.{g_p}
 use Rattle.counts.proofs.pairs.Goals as goal
 

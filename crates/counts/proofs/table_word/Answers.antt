@@ -3,7 +3,6 @@ use mathlib.Core.Path.{sym, ◌∙◌}
 use native.Mathlib.Omega.{arith}
 use Rattle.counts.proofs.GeoLaws.{counted}
 use Rattle.counts.proofs.TableLaws.{table_at, table-past}
-use borrow.Author.Rules.{rules}
 use Rattle.counts.proofs.table_word.Goals as goal
 
 pub returns-then-crash_counts-cc : goal.returns-then-crash_counts-cc

@@ -1,6 +1,5 @@
 -- `counts_stamps::alive` meets its contract: straight. Assumes nothing.
 use mathlib.Core.Path.{ap}
-use borrow.Author.Rules.{rules}
 use lib.Dec.{leb}
 use Rattle.counts.specs.Stamps.{alive}
 use Rattle.counts_stamps.proofs.alive.Goals as goal

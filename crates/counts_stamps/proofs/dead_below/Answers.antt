@@ -1,5 +1,4 @@
 -- `counts_stamps::dead_below` meets its contract: straight. Assumes nothing.
-use borrow.Author.Rules.{rules}
 use Rattle.counts.specs.Stamps.{dead_below}
 use Rattle.counts_stamps.proofs.dead_below.Goals as goal
 

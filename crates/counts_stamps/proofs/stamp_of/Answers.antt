@@ -1,5 +1,4 @@
 -- `counts_stamps::stamp_of` meets its contract: straight. Assumes nothing.
-use borrow.Author.Rules.{rules}
 use Rattle.counts.specs.Stamps.{stamp_of}
 use Rattle.counts_stamps.proofs.stamp_of.Goals as goal
 

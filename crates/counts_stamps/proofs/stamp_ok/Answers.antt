@@ -1,5 +1,4 @@
 -- `counts_stamps::stamp_ok` meets its contract: straight. Assumes nothing.
-use borrow.Author.Rules.{rules}
 use Rattle.counts.specs.Stamps.{stamp_ok}
 use Rattle.counts_stamps.proofs.stamp_ok.Goals as goal
 

@@ -1,7 +1,6 @@
 -- `counts_stamps::stands` meets its contract: the two tests in order. Assumes nothing.
 use mathlib.Core.Path.{sym, ◌∙◌}
-use borrow.Author.Rules.{rules}
-use Rattle.counts.specs.Stamps.{alive, standing}
+use Rattle.counts.specs.Stamps.{standing}
 use Rattle.counts_stamps.proofs.stands.Goals as goal
 
 pub returns-then-same_stamp : goal.returns-then-same_stamp

@@ -1,7 +1,6 @@
 -- `counts_stamps::view_word` meets its contract: past the table, the view's own word, or the table's. Assumes nothing.
 use mathlib.Core.Path.{sym, ◌∙◌}
 use native.Mathlib.Omega.{arith}
-use borrow.Author.Rules.{rules}
 use Rattle.counts.proofs.GeoLaws.{counted}
 use Rattle.counts.proofs.TableLaws.{view-past, view-own, view-other}
 use Rattle.counts_stamps.proofs.view_word.Goals as goal

@@ -1,8 +1,6 @@
 -- All words, or those up to c. Assumes nothing.
 use mathlib.Core.Path.{refl}
 use native.Mathlib.Omega.{arith}
-use borrow.Author.Tests.{not-false}
-use borrow.Author.Rules.{rules}
 use mathlib.Core.Logic.{inl, inr}
 use Rattle.counts_table.proofs.judged.Goals as goal
 

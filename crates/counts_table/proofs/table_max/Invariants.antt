@@ -1,19 +1,12 @@
 -- The loop's invariant: the answer is what was seen so far, and that for what is left. Assumes nothing.
-use mathlib.Core.Path.{◌≡◌, refl, ap, ◌∙◌}
+use mathlib.Core.Path.{◌≡◌}
 use mathlib.Core.Bool.{◌&&◌}
 use Prim.Native.Nat.{◌-◌, ◌≤◌}
-use native.Mathlib.Omega.{arith}
-use lib.Dec.{leb}
 use lib.ListN.{drop}
-use borrow.Author.Rules.{rules}
 use Rattle.words.specs.Lists.{every}
-use Rattle.words.proofs.EveryLaws.{seen-go}
 use Rattle.sectors.specs.Sectors.{sec}
-use Rattle.counts.specs.Geometry.{g_n, table_of}
+use Rattle.counts.specs.Geometry.{table_of}
 use Rattle.counts.specs.Stamps.{word_max}
-use Rattle.counts.proofs.GeoLaws.{counted}
-use Rattle.counts.proofs.TableLaws.{table-lt, table-le}
-use Rattle.counts_table.proofs.OneWalk.{walk_end}
 use Rattle.counts_table.proofs.table_max.Given as goal
 
 abbrev pub invariant-loop-i : goal.invariant-loop-i

@@ -1,5 +1,4 @@
 -- Straight. Assumes nothing.
-use borrow.Author.Rules.{rules}
 use Rattle.counts.specs.Stamps.{table_ok}
 use Rattle.counts_table.proofs.table_ok.Goals as goal
 

@@ -1,5 +1,4 @@
 -- `counts_table::word_below` meets its contract: straight. Assumes nothing.
-use borrow.Author.Rules.{rules}
 use Rattle.counts_table.proofs.word_below.Goals as goal
 
 pub returns : goal.returns

@@ -1,6 +1,5 @@
 -- The word in the image. Assumes nothing.
 use mathlib.Core.Path.{refl, sym, ◌∙◌}
-use borrow.Author.Rules.{rules}
 use native.Mathlib.Omega.{arith}
 use Rattle.counts.proofs.GeoLaws.{counted}
 use Rattle.counts.proofs.TableLaws.{table_at}

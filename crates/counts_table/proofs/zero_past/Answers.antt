@@ -1,11 +1,8 @@
 -- The loop's invariant: the answer is what was seen so far, and that for what is left. Assumes nothing.
-use mathlib.Core.Path.{◌≡◌, refl, ap}
-use mathlib.Core.Bool.{◌&&◌}
-use Prim.Native.Nat.{◌+◌, ◌-◌, ◌≤◌}
+use mathlib.Core.Path.{refl, ap}
+use Prim.Native.Nat.{◌+◌}
 use native.Mathlib.Omega.{arith}
-use lib.ListN.{drop}
-use borrow.Author.Rules.{rules}
-use Rattle.words.specs.Lists.{every, is_zero}
+use Rattle.words.specs.Lists.{is_zero}
 use Rattle.words.proofs.EveryLaws.{every-end, seen-go, seen_end}
 use Rattle.sectors.specs.Sectors.{sec}
 use Rattle.counts.specs.Geometry.{table_of}

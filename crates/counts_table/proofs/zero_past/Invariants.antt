@@ -1,16 +1,11 @@
 -- The loop's invariant: the answer is what was seen so far, and that for what is left. Assumes nothing.
-use mathlib.Core.Path.{◌≡◌, refl, ap}
+use mathlib.Core.Path.{◌≡◌}
 use mathlib.Core.Bool.{◌&&◌}
-use Prim.Native.Nat.{◌+◌, ◌-◌, ◌≤◌}
-use native.Mathlib.Omega.{arith}
+use Prim.Native.Nat.{◌-◌, ◌≤◌}
 use lib.ListN.{drop}
-use borrow.Author.Rules.{rules}
 use Rattle.words.specs.Lists.{every, is_zero}
-use Rattle.words.proofs.EveryLaws.{every-end, seen-go, seen_end}
 use Rattle.sectors.specs.Sectors.{sec}
 use Rattle.counts.specs.Geometry.{table_of}
-use Rattle.counts.proofs.GeoLaws.{counted}
-use Rattle.counts.proofs.TableLaws.{table-lt, table-le}
 use Rattle.counts_table.proofs.zero_past.Given as goal
 
 abbrev pub invariant-loop-i : goal.invariant-loop-i

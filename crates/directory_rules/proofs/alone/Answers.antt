@@ -1,5 +1,4 @@
 -- An entry that shows no file, or whose name was not marked, stands apart from the later ones. Assumes nothing.
-use borrow.Author.Rules.{rules}
 use Rattle.counts.specs.Stamps.{table_in}
 use Rattle.sectors.specs.Sectors.{sec}
 use Rattle.directory.proofs.ApartLaws.{gone-apart}

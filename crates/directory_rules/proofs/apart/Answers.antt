@@ -1,7 +1,6 @@
 -- `directory_rules::apart` meets its contract: by the names, then by what is shown. Assumes nothing.
 use mathlib.Core.Bool.{not}
 use mathlib.Core.Path.{ap}
-use borrow.Author.Rules.{rules}
 use Rattle.directory.proofs.ApartLaws.{apart-unlike, apart-like}
 use Rattle.directory_rules.proofs.apart.Goals as goal
 

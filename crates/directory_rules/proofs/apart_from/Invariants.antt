@@ -1,15 +1,11 @@
 -- `directory_rules::apart_from` meets its contract: in the loop the answer is that for what is left. Assumes nothing.
-use mathlib.Core.Path.{◌≡◌, refl}
+use mathlib.Core.Path.{◌≡◌}
 use mathlib.Core.List.{[]}
 use Prim.Native.Nat.{◌+◌, ◌-◌, ◌≤◌}
-use native.Mathlib.Omega.{arith}
-use borrow.Author.Rules.{rules}
 use lib.ListN.{get_or, drop}
 use Rattle.counts.specs.Stamps.{table_in}
 use Rattle.directory.specs.Directory.{entries_of, apart}
-use Rattle.directory.proofs.DirectoryLaws.{entries-lt, entries-le, entry-test2}
 use Rattle.sectors.specs.Sectors.{sec}
-use Rattle.words.proofs.EveryLaws.{every-stop, every-go, every-end}
 use Rattle.words.specs.Lists.{every}
 use Rattle.directory_rules.proofs.apart_from.Given as goal
 

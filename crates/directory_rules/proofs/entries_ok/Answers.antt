@@ -1,18 +1,13 @@
 -- `directory_rules::entries_ok` meets its contract: in the loop the answer is that for what is left. Assumes nothing.
 use mathlib.Core.Bool.{not}
-use mathlib.Core.Path.{◌≡◌, refl, ap}
+use mathlib.Core.Path.{refl, ap}
 use mathlib.Core.List.{[]}
-use Prim.Native.Nat.{◌-◌, ◌≤◌}
 use native.Mathlib.Omega.{arith}
-use borrow.Author.Rules.{rules}
-use lib.ListN.{drop}
 use Rattle.counts.specs.Stamps.{table_in}
-use Rattle.directory.specs.Directory.{entries_of}
 use Rattle.directory.proofs.DirectoryLaws.{entries-lt, entries-le, entry-test}
 use Rattle.entries.specs.Entries.{entry_ok}
 use Rattle.sectors.specs.Sectors.{sec}
 use Rattle.words.proofs.EveryLaws.{every-stop, every-go, every-end}
-use Rattle.words.specs.Lists.{every}
 use Rattle.directory_rules.proofs.entries_ok.Goals as goal
 
 pub loop-j-init : goal.loop-j-init

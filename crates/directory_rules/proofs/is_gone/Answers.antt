@@ -1,7 +1,6 @@
 -- `directory_rules::is_gone` meets its contract: by the first view, then by the second. Assumes nothing.
 use mathlib.Core.Bool.{not}
 use mathlib.Core.Path.{ap}
-use borrow.Author.Rules.{rules}
 use Rattle.directory_rules.proofs.Shows.{none_in, gone-not, gone-second}
 use Rattle.directory_rules.proofs.is_gone.Goals as goal
 

@@ -1,7 +1,6 @@
 -- Two marks, one after the other. Assumes nothing.
 use mathlib.Core.Path.{ap}
 use Prim.Native.Nat.{ℕ, ◌/◌, ◌%◌}
-use borrow.Author.Rules.{rules}
 use Rattle.entries.specs.Entries.{name_of}
 use Rattle.directory_rules.proofs.Marks.{marking}
 use Rattle.directory_rules.proofs.mark_name.Goals as goal

@@ -1,18 +1,14 @@
 -- The loop's invariant: the entries passed stand apart, and their names are marked. Assumes nothing.
 use mathlib.Core.Path.{◌≡◌, refl, sym, ap}
-use mathlib.Core.Bool.{true, not}
+use mathlib.Core.Bool.{not}
 use mathlib.Core.List.{[]}
-use Prim.Native.Nat.{◌+◌, ◌-◌, ◌*◌, ◌≤◌}
+use Prim.Native.Nat.{◌+◌, ◌-◌, ◌*◌}
 use native.Mathlib.Omega.{arith}
-use lib.ListN.{length, drop}
 use borrow.Author.Rules.{rules}
-use Rattle.words.specs.Lists.{pairwise}
 use Rattle.words.proofs.EveryLaws.{pair_end}
-use Rattle.counts.specs.Stamps.{table_in}
 use Rattle.sectors.specs.Sectors.{sec}
-use Rattle.directory.specs.Directory.{entries_of, apart}
+use Rattle.directory.specs.Directory.{entries_of}
 use Rattle.directory.proofs.DirectoryLaws.{entries-lt, entries-le}
-use Rattle.directory_rules.specs.Inner.{Known}
 use Rattle.directory_rules.proofs.Marks.{known-end, known_at, down-go, down-stop}
 use Rattle.directory_rules.proofs.names_ok.Goals as goal
 

@@ -1,19 +1,13 @@
 -- The loop's invariant: the entries passed stand apart, and their names are marked. Assumes nothing.
-use mathlib.Core.Path.{◌≡◌, refl, sym}
+use mathlib.Core.Path.{◌≡◌}
 use mathlib.Core.Bool.{true}
-use mathlib.Core.List.{[]}
-use Prim.Native.Nat.{◌+◌, ◌-◌, ◌*◌, ◌≤◌}
-use native.Mathlib.Omega.{arith}
+use Prim.Native.Nat.{◌*◌, ◌≤◌}
 use lib.ListN.{length, drop}
-use borrow.Author.Rules.{rules}
 use Rattle.words.specs.Lists.{pairwise}
-use Rattle.words.proofs.EveryLaws.{pair_end}
 use Rattle.counts.specs.Stamps.{table_in}
 use Rattle.sectors.specs.Sectors.{sec}
 use Rattle.directory.specs.Directory.{entries_of, apart}
-use Rattle.directory.proofs.DirectoryLaws.{entries-lt, entries-le}
 use Rattle.directory_rules.specs.Inner.{Known}
-use Rattle.directory_rules.proofs.Marks.{known-end, known_at, down-go, down-stop}
 use Rattle.directory_rules.proofs.names_ok.Given as goal
 
 abbrev pub invariant-loop-i : goal.invariant-loop-i

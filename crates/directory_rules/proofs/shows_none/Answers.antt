@@ -1,5 +1,4 @@
 -- Straight. Assumes nothing.
-use borrow.Author.Rules.{rules}
 use Rattle.directory_rules.proofs.Shows.{none_here}
 use Rattle.directory_rules.proofs.shows_none.Goals as goal
 

@@ -1,16 +1,12 @@
 -- `directory_search::find_name` meets its contract: in the loop the answer is that for what is left. Assumes nothing.
-use mathlib.Core.Path.{◌≡◌, refl}
+use mathlib.Core.Path.{refl}
 use mathlib.Core.List.{[]}
-use Prim.Native.Nat.{◌-◌, ◌≤◌}
 use native.Mathlib.Omega.{arith}
-use borrow.Author.Rules.{rules}
-use lib.ListN.{drop}
 use Rattle.counts.specs.Stamps.{table_in}
-use Rattle.directory.specs.Directory.{entries_of, named}
+use Rattle.directory.specs.Directory.{named}
 use Rattle.directory.proofs.DirectoryLaws.{entries-lt, entries-le, entry-test}
 use Rattle.sectors.specs.Sectors.{sec}
 use Rattle.words.proofs.EveryLaws.{first-stop, first-go, first-end}
-use Rattle.words.specs.Lists.{first_at}
 use Rattle.directory_search.proofs.find_name.Goals as goal
 
 pub loop-j-init : goal.loop-j-init

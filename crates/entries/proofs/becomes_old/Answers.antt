@@ -1,5 +1,4 @@
 -- `entries::becomes_old` meets its contract: one case of the definition in each arm. Assumes nothing.
-use borrow.Author.Rules.{rules}
 use Rattle.counts.specs.Stamps.{becomes_old}
 use Rattle.entries.proofs.becomes_old.Goals as goal
 

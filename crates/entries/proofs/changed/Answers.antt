@@ -1,5 +1,4 @@
 -- `entries::changed` meets its contract: straight. Assumes nothing.
-use borrow.Author.Rules.{rules}
 use Rattle.entries.specs.Inner.{changed_as}
 use Rattle.entries.proofs.changed.Goals as goal
 

@@ -1,7 +1,6 @@
 -- `entries::fill_entry` meets its contract: its parts put one after the other. Assumes nothing.
-use mathlib.Core.Path.{◌≡◌, refl, sym}
+use mathlib.Core.Path.{◌≡◌, refl}
 use native.Mathlib.Omega.{arith}
-use borrow.Author.Rules.{rules}
 use lib.ListN.{length}
 use Rattle.entries.proofs.CodecLaws.{version_bytes-length}
 use Rattle.entries.specs.Entries.{entry_bytes}

@@ -1,6 +1,5 @@
 -- `entries::padded` meets its contract: zeros with the name written over them. Assumes nothing.
 use mathlib.Core.Path.{◌∙◌}
-use borrow.Author.Rules.{rules}
 use Rattle.entries.proofs.CodecLaws.{pad-over}
 use Rattle.entries.proofs.padded.Goals as goal
 

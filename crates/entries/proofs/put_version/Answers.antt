@@ -1,5 +1,4 @@
 -- `entries::put_version` meets its contract: four words put one after the other. Assumes nothing.
-use borrow.Author.Rules.{rules}
 use Rattle.entries.specs.Entries.{version_bytes}
 use Rattle.words.proofs.WordLaws.{four-words}
 use Rattle.entries.proofs.put_version.Goals as goal

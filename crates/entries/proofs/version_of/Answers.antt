@@ -1,6 +1,5 @@
 -- `entries::version_of` meets its contract: by the state. Assumes nothing.
 use mathlib.Core.Path.{sym, ◌∙◌}
-use borrow.Author.Rules.{rules}
 use borrow.Author.Tests.{eq-eqb, ne_eqb}
 use Rattle.entries.specs.Entries.{version_of}
 use Rattle.entries.proofs.version_of.Goals as goal

@@ -1,13 +1,9 @@
 -- The loop's invariant: the answer is what was seen so far, and that for what is left. Assumes nothing.
-use mathlib.Core.Path.{◌≡◌, refl}
-use mathlib.Core.Bool.{◌&&◌}
-use Prim.Native.Nat.{◌-◌, ◌≤◌}
+use mathlib.Core.Path.{refl}
 use native.Mathlib.Omega.{arith}
-use borrow.Author.Rules.{rules}
-use lib.ListN.{length, drop, get_or}
+use lib.ListN.{get_or}
 use Rattle.entries.specs.Entries.{good_byte}
 use Rattle.words.proofs.EveryLaws.{seen-go, seen_end}
-use Rattle.words.specs.Lists.{every}
 use Rattle.entries_names.proofs.good_bytes.Goals as goal
 
 pub loop-i-init : goal.loop-i-init

@@ -3,7 +3,6 @@ use Prim.Native.Nat.{◌≤◌, ◌<◌}
 use native.Mathlib.Omega.{arith}
 use borrow.Author.Tests.{le-leb, lt-leb}
 use lib.ListN.{length}
-use borrow.Author.Rules.{rules}
 use Rattle.entries.specs.Entries.{good_name}
 use Rattle.entries_names.proofs.good_name.Goals as goal
 

@@ -1,5 +1,4 @@
 -- `entries_names::has_name` meets its contract: the name's part of the entry. Assumes nothing.
-use borrow.Author.Rules.{rules}
 use Rattle.entries.proofs.EntryLaws.{name-here}
 use Rattle.entries_names.proofs.has_name.Goals as goal
 

@@ -1,9 +1,7 @@
 -- The loop's invariant: the hash goes on over the bytes that are left. Assumes nothing.
-use mathlib.Core.Path.{◌≡◌, refl, sym, ◌∙◌}
-use Prim.Native.Nat.{◌-◌, ◌≤◌}
-use lib.ListN.{length, drop}
+use mathlib.Core.Path.{refl, sym, ◌∙◌}
 use borrow.Author.Rules.{rules}
-use Rattle.entries_names.specs.Inner.{hash_from, hash_of}
+use Rattle.entries_names.specs.Inner.{hash_of}
 use Rattle.entries_names.proofs.NameHash.{hash-next, hash-end}
 use Rattle.entries_names.proofs.hash.Goals as goal
 

@@ -1,10 +1,8 @@
 -- The loop's invariant: the hash goes on over the bytes that are left. Assumes nothing.
-use mathlib.Core.Path.{◌≡◌, refl, sym, ◌∙◌}
+use mathlib.Core.Path.{◌≡◌}
 use Prim.Native.Nat.{◌-◌, ◌≤◌}
 use lib.ListN.{length, drop}
-use borrow.Author.Rules.{rules}
 use Rattle.entries_names.specs.Inner.{hash_from, hash_of}
-use Rattle.entries_names.proofs.NameHash.{hash-next, hash-end}
 use Rattle.entries_names.proofs.hash.Given as goal
 
 abbrev pub invariant-loop-i : goal.invariant-loop-i

@@ -1,5 +1,4 @@
 -- The name's part of the entry. Assumes nothing.
-use borrow.Author.Rules.{rules}
 use Rattle.entries_names.proofs.NameHash.{hash-here}
 use Rattle.entries_names.proofs.hash_at.Goals as goal
 

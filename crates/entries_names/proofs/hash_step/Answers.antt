@@ -1,5 +1,4 @@
 -- Straight. Assumes nothing.
-use borrow.Author.Rules.{rules}
 use Rattle.entries_names.specs.Inner.{hash_step}
 use Rattle.entries_names.proofs.hash_step.Goals as goal
 

@@ -1,6 +1,5 @@
 -- The definition, but for a name of no bytes. Assumes nothing.
 use mathlib.Core.Path.{refl}
-use borrow.Author.Rules.{rules}
 use Rattle.entries_names.specs.Inner.{last_of}
 use Rattle.entries_names.proofs.Unlike.{last_none}
 use Rattle.entries_names.proofs.last_byte.Goals as goal

@@ -1,6 +1,5 @@
 -- `entries_names::name_ok` meets its contract: too short, too long, or tested byte by byte. Assumes nothing.
 use native.Mathlib.Omega.{arith}
-use borrow.Author.Rules.{rules}
 use Rattle.entries.proofs.EntryLaws.{name-low, name-high, name-mid}
 use Rattle.entries_names.proofs.name_ok.Goals as goal
 

@@ -1,5 +1,4 @@
 -- By the lengths, by the last bytes, then by all bytes. Assumes nothing.
-use borrow.Author.Rules.{rules}
 use Rattle.words.proofs.EveryLaws.{eq_list-other}
 use Rattle.entries_names.proofs.Unlike.{lasts-differ}
 use Rattle.entries_names.proofs.same_bytes.Goals as goal

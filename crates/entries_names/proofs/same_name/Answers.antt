@@ -1,5 +1,4 @@
 -- `entries_names::same_name` meets its contract: the names' parts of the entries. Assumes nothing.
-use borrow.Author.Rules.{rules}
 use Rattle.entries.proofs.EntryLaws.{same_here}
 use Rattle.entries_names.proofs.same_name.Goals as goal
 

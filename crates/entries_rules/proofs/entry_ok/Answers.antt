@@ -1,5 +1,4 @@
 -- `entries_rules::entry_ok` meets its contract: the answers to its parts. Assumes nothing.
-use borrow.Author.Rules.{rules}
 use Rattle.entries_rules.proofs.PassHere.{entry_here}
 use Rattle.entries_rules.proofs.entry_ok.Goals as goal
 

@@ -1,5 +1,4 @@
 -- `entries_rules::run_ok` meets its contract: both ends are made in 64 bits, where they cannot wrap. Assumes nothing.
-use borrow.Author.Rules.{rules}
 use borrow.Author.Tests.{eq-eqb, ne_eqb}
 use Rattle.entries.specs.Entries.{run_ok}
 use Rattle.entries.proofs.PassLaws.{pieces-text}

@@ -1,5 +1,4 @@
 -- `entries_rules::shown_ok` meets its contract: by the state. Assumes nothing.
-use borrow.Author.Rules.{rules}
 use Rattle.entries_rules.proofs.PassHere.{ok-absent, ok-present}
 use Rattle.entries_rules.proofs.shown_ok.Goals as goal
 

@@ -1,6 +1,5 @@
 -- `entries_rules::version_ok` meets its contract: by the state. Assumes nothing.
 use mathlib.Core.Path.{sym, ◌∙◌}
-use borrow.Author.Rules.{rules}
 use borrow.Author.Tests.{eq-eqb, ne_eqb}
 use Rattle.entries.specs.Entries.{version_ok}
 use Rattle.entries_rules.proofs.version_ok.Goals as goal

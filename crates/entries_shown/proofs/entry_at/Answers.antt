@@ -2,7 +2,6 @@
 use mathlib.Core.Path.{◌≡◌, ◌∙◌}
 use Prim.Native.Nat.{◌+◌, ◌-◌}
 use native.Mathlib.Omega.{arith}
-use borrow.Author.Rules.{rules}
 use Rattle.entries_shown.proofs.entry_at.Goals as goal
 
 pub returns : goal.returns

@@ -1,5 +1,4 @@
 -- `entries_shown::entry_of` meets its contract: straight. Assumes nothing.
-use borrow.Author.Rules.{rules}
 use Rattle.entries.specs.Entries.{new_of, old_of, name_bytes, entry_of}
 use Rattle.entries_shown.proofs.entry_of.Goals as goal
 

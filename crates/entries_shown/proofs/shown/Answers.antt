@@ -1,7 +1,5 @@
 -- `entries_shown::shown` meets its contract: the version's part of the entry. Assumes nothing.
 use mathlib.Core.Path.{ap, ◌∙◌}
-use borrow.Author.Rules.{rules}
-use Rattle.counts.specs.Stamps.{alive}
 use Rattle.entries.specs.Entries.{version_of, shown}
 use Rattle.entries.proofs.EntryLaws.{shown-here}
 use Rattle.entries_shown.proofs.shown.Goals as goal

@@ -1,5 +1,4 @@
 -- The inner call in the session that the bytes hold, which fits. Assumes nothing.
-use borrow.Author.Rules.{rules}
 use Rattle.host_crossing.proofs.CrossingLaws.{fit-over, put-at-over}
 use Rattle.fitting.proofs.fitting_put_at.Goals as goal
 

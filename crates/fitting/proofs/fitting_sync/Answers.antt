@@ -1,5 +1,4 @@
 -- The number of the call that counts. Assumes nothing.
-use borrow.Author.Rules.{rules}
 use mathlib.Core.Path.{ap}
 use Rattle.card.specs.declared.Answer.{Answer}
 use Rattle.fitting.proofs.fitting_sync.Goals as goal

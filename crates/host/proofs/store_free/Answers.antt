@@ -1,6 +1,5 @@
 -- The two figures in the session that the bytes hold, or the output as lent. Assumes nothing.
 use Rattle.host_crossing.proofs.CrossingLaws.{free-over}
-use borrow.Author.Rules.{rules}
 use Rattle.host.proofs.store_free.Goals as goal
 
 pub returns : goal.returns

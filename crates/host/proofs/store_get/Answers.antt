@@ -1,6 +1,5 @@
 -- The call in the session that the bytes hold. Assumes nothing.
 use Rattle.host_crossing.proofs.CrossingLaws.{get-over}
-use borrow.Author.Rules.{rules}
 use Rattle.host.proofs.store_get.Goals as goal
 
 pub returns : goal.returns

@@ -1,7 +1,6 @@
 -- The call, and its number. Assumes nothing.
 use mathlib.Core.Path.{ap}
 use Rattle.card.specs.declared.Answer.{Answer}
-use borrow.Author.Rules.{rules}
 use Rattle.host.proofs.store_make.Goals as goal
 
 pub returns : goal.returns

@@ -1,6 +1,5 @@
 -- The call, and its session as bytes. Assumes nothing.
 use Rattle.host_crossing.proofs.CrossingLaws.{mount-over}
-use borrow.Author.Rules.{rules}
 use Rattle.host.proofs.store_mount.Goals as goal
 
 pub returns : goal.returns

@@ -1,7 +1,6 @@
 -- Refused as mount is, or its first steps. Assumes nothing.
 use Rattle.store.proofs.CardLaws.{mount-can}
 use Rattle.host_crossing.proofs.FirstLaws.{mount-first-stop, mount-first-done}
-use borrow.Author.Rules.{rules}
 use Rattle.host.proofs.store_mount_steps.Goals as goal
 
 pub returns-then-n-ne0 : goal.returns-then-n-ne0

@@ -1,6 +1,5 @@
 -- The report, or the output as lent. Assumes nothing.
 use Rattle.host_crossing.proofs.CrossingLaws.{read-refused, read_through}
-use borrow.Author.Rules.{rules}
 use Rattle.host.proofs.store_read.Goals as goal
 
 pub returns-then-r-ne0 : goal.returns-then-r-ne0

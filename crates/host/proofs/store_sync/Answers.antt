@@ -1,7 +1,6 @@
 -- The number of the call that counts. Assumes nothing.
 use mathlib.Core.Path.{ap}
 use Rattle.card.specs.declared.Answer.{Answer}
-use borrow.Author.Rules.{rules}
 use Rattle.host.proofs.store_sync.Goals as goal
 
 pub returns : goal.returns

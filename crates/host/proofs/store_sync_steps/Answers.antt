@@ -3,7 +3,6 @@ use Rattle.store.proofs.Fitting.{fit_on, open-fits-on}
 use Rattle.store.proofs.SyncCalls.{number-sized}
 use Rattle.store.proofs.WriteLaws.{can-sync}
 use Rattle.host_crossing.proofs.FirstLaws.{sync-first-2, sync-first-closed, sync-first-stop, sync-first-done}
-use borrow.Author.Rules.{rules}
 use Rattle.host.proofs.store_sync_steps.Goals as goal
 
 pub returns-then-unfit : goal.returns-then-unfit

@@ -6,7 +6,6 @@ use Rattle.store.proofs.CallLaws.{passed, failed}
 use Rattle.store.proofs.Fitting.{fit_on, open-fits-on}
 use Rattle.store.proofs.WriteLaws.{can-sync}
 use Rattle.host_crossing.proofs.FirstLaws.{unmount-first-2, unmount-first-closed, unmount-first-1, unmount-first-done}
-use borrow.Author.Rules.{rules}
 use Rattle.host.proofs.store_unmount_steps.Goals as goal
 
 pub returns-then-unfit : goal.returns-then-unfit

@@ -1,6 +1,5 @@
 -- Six words read. Assumes nothing.
 use Rattle.host_crossing.proofs.CrossingLaws.{decoded-words}
-use borrow.Author.Rules.{rules}
 use Rattle.host_crossing.proofs.decoded.Goals as goal
 
 pub returns : goal.returns

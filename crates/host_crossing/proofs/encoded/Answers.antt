@@ -1,6 +1,5 @@
 -- Closed or open. Assumes nothing.
 use Rattle.host_crossing.proofs.CrossingLaws.{encoded-closed, encoded-open}
-use borrow.Author.Rules.{rules}
 use Rattle.host_crossing.proofs.encoded.Goals as goal
 
 pub returns-in_default : goal.returns-in_default

@@ -1,7 +1,6 @@
 -- The number, and the figures in the bytes or the bytes as lent. Assumes nothing.
 use mathlib.Core.Path.{refl}
 use Rattle.host_crossing.proofs.CrossingLaws.{room-refused, room-through}
-use borrow.Author.Rules.{rules}
 use Rattle.host_crossing.proofs.give_room.Goals as goal
 
 pub returns-then-r-ne0 : goal.returns-then-r-ne0

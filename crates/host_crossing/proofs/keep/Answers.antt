@@ -1,7 +1,6 @@
 -- The answer, and the session in the bytes or the bytes as lent. Assumes nothing.
 use mathlib.Core.Path.{refl}
 use Rattle.host_crossing.proofs.CrossingLaws.{keep-refused, keep-through}
-use borrow.Author.Rules.{rules}
 use Rattle.host_crossing.proofs.keep.Goals as goal
 
 pub returns-then-o-ne0 : goal.returns-then-o-ne0

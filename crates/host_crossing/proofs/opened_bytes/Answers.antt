@@ -1,6 +1,5 @@
 -- Six words put into zeros. Assumes nothing.
 use Rattle.host_crossing.proofs.CrossingLaws.{opened-built}
-use borrow.Author.Rules.{rules}
 use Rattle.host_crossing.proofs.opened_bytes.Goals as goal
 
 pub returns : goal.returns

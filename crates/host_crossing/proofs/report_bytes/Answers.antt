@@ -1,6 +1,5 @@
 -- Four words put into zeros. Assumes nothing.
 use Rattle.host_crossing.proofs.CrossingLaws.{report-built}
-use borrow.Author.Rules.{rules}
 use Rattle.host_crossing.proofs.report_bytes.Goals as goal
 
 pub returns : goal.returns

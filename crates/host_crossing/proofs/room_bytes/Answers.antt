@@ -1,6 +1,5 @@
 -- Two words put into zeros. Assumes nothing.
 use Rattle.host_crossing.proofs.CrossingLaws.{room-built}
-use borrow.Author.Rules.{rules}
 use Rattle.host_crossing.proofs.room_bytes.Goals as goal
 
 pub returns : goal.returns

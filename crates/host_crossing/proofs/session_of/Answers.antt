@@ -1,6 +1,5 @@
 -- By the state. Assumes nothing.
 use Rattle.host_crossing.proofs.CrossingLaws.{session-closed, session-open}
-use borrow.Author.Rules.{rules}
 use Rattle.host_crossing.proofs.session_of.Goals as goal
 
 pub returns-then-state-eq0 : goal.returns-then-state-eq0

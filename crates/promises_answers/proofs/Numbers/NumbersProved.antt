@@ -22,7 +22,6 @@ use Rattle.session.specs.Fits.{fits}
 use Rattle.session.proofs.FitLaws.{Fit, fit-inv}
 use Rattle.session.proofs.FitMeansProved.{fits-mean}
 use Rattle.store.specs.Edit.{place_in, run_in, put_plan, put_at, put}
-use Rattle.store.specs.Look.{free}
 use Rattle.store.proofs.RoomLaws.{present-wide, alike, room_in}
 use Rattle.store.proofs.Plans.{put-plain}
 use Rattle.promises_answers.specs.Numbers.{Exactly, NoRoom, place_rows, put_rows, put_at_rows, Numbers}

@@ -26,7 +26,6 @@ use Rattle.store.specs.Mount.{Ended, opened_from, mount_done, mount}
 use Rattle.store.specs.Edit.{remove, put_at}
 use Rattle.store.specs.Sync.{both_plan, land, sync, unmount}
 use Rattle.store.proofs.Plans.{both-inv, both-num, mount-few, mount-good, mount-num, sync-live}
-use Rattle.promises_crash.proofs.Play.{copied}
 use Rattle.promises_crash.proofs.SteadyProved.{through}
 use Rattle.promises_crash.specs.Leaves.{LandLeaves, MountLeaves, SyncLeaves, UnmountLeaves, LandChanges, MountChanges, SyncChanges, UnmountChanges, CountsNothing}
 use Rattle.promises_crash.proofs.Leaves.LeavesSync.{sync-done}

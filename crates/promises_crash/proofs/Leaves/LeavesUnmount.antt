@@ -18,7 +18,6 @@ use Rattle.session.proofs.FitLaws.{Fit, head-inv}
 use Rattle.store.specs.Steps.{set_count, set_word, table_sector, sync_steps, unmount_steps, unmount_steps_by, down_steps, sync_work, unmount_work, unmount_work_by, down_work, at_top}
 use Rattle.store.proofs.StepLaws.{count-length, count-other, count-here, count-count, word-table}
 use Rattle.store.specs.Sync.{unmount_done}
-use Rattle.promises_crash.proofs.Play.{copied}
 use Rattle.promises_crash.specs.Leaves.{with_count, BothSynced, UnmountLeaves}
 use Rattle.promises_crash.proofs.Leaves.LeavesSync.{L, pos, small, now-sized, room, now-here, now-there, done-by, below, at_top_lem, synced}
 

@@ -5,7 +5,6 @@ use Rattle.words.specs.Lists.{eq_list}
 use Rattle.sectors.specs.Sectors.{sec, unlike, differs}
 use Rattle.sectors.proofs.SectorLaws.{sec-part}
 use Rattle.sectors.proofs.Fewer.{write-own}
-use borrow.Author.Rules.{rules}
 use Rattle.sectors.proofs.copy_changed.Goals as goal
 
 pub returns-then-same : goal.returns-then-same

@@ -1,7 +1,6 @@
 -- `sectors::copy_sector` meets its contract: the part that is read is sector i. Assumes nothing.
 use mathlib.Core.Path.{◌∙◌}
 use Rattle.sectors.proofs.SectorLaws.{sec-part}
-use borrow.Author.Rules.{rules}
 use Rattle.sectors.proofs.copy_sector.Goals as goal
 
 pub returns : goal.returns

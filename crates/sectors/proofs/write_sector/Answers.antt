@@ -1,6 +1,5 @@
 -- `sectors::write_sector` meets its contract: the part that was lent came back as `from`, and the rest is untouched. Assumes nothing.
 use native.Mathlib.Omega.{arith}
-use borrow.Author.Rules.{rules}
 use Rattle.words.specs.Lists.{set_part}
 use Rattle.words.proofs.SpliceLaws.{part-back}
 use Rattle.sectors.specs.Sectors.{set_sec}

@@ -1,5 +1,4 @@
 -- `session::present_view` meets its contract: by whether the session is worn. Assumes nothing.
-use borrow.Author.Rules.{rules}
 use Rattle.session.proofs.FitTests.{view-worn, view-open}
 use Rattle.session.proofs.present_view.Goals as goal
 

@@ -1,15 +1,9 @@
 -- `session_agree::entries_at_most` meets its contract: in the loop the answer is that for what is left. Assumes nothing.
 use mathlib.Core.Bool.{not}
-use mathlib.Core.Path.{◌≡◌, refl, ap}
+use mathlib.Core.Path.{refl, ap}
 use mathlib.Core.List.{[]}
-use Prim.Native.Nat.{◌-◌, ◌≤◌}
 use native.Mathlib.Omega.{arith}
-use borrow.Author.Rules.{rules}
-use lib.ListN.{drop}
-use Rattle.words.specs.Lists.{every}
 use Rattle.words.proofs.EveryLaws.{every-stop, every-go, every-end}
-use Rattle.sectors.specs.Sectors.{sec}
-use Rattle.directory.specs.Directory.{entries_of}
 use Rattle.directory.proofs.DirectoryLaws.{entries-lt, entries-le, entry-test}
 use Rattle.session.specs.Fits.{entry_at_most}
 use Rattle.session_agree.proofs.entries_at_most.Goals as goal

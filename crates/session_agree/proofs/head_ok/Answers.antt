@@ -1,6 +1,5 @@
 -- `session_agree::head_ok` meets its contract: by what it reads of sector 0. Assumes nothing.
 use Rattle.session.proofs.FitTests.{head-here}
-use borrow.Author.Rules.{rules}
 use Rattle.session_agree.proofs.head_ok.Goals as goal
 
 pub returns : goal.returns

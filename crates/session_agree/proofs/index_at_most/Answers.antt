@@ -1,11 +1,7 @@
 -- In the loop the answer is that for the groups that are left. Assumes nothing.
 use mathlib.Core.Bool.{not}
-use mathlib.Core.Path.{◌≡◌, ap}
-use Prim.Native.Nat.{◌-◌, ◌≤◌}
+use mathlib.Core.Path.{ap}
 use native.Mathlib.Omega.{arith}
-use borrow.Author.Rules.{rules}
-use Rattle.counts.specs.Geometry.{g_p}
-use Rattle.apages.specs.Index.{every_group}
 use Rattle.apages.proofs.ChangeLaws.{group-part, groups-start, groups-stop, groups-go, groups-end}
 use Rattle.session.specs.Fits.{entry_at_most, group_at_most, index_at_most}
 use Rattle.session_agree.proofs.index_at_most.Goals as goal

@@ -1,12 +1,9 @@
 -- In the loop the answer is that for the groups that are left. Assumes nothing.
 use mathlib.Core.Path.{◌≡◌}
 use Prim.Native.Nat.{◌-◌, ◌≤◌}
-use native.Mathlib.Omega.{arith}
-use borrow.Author.Rules.{rules}
 use Rattle.counts.specs.Geometry.{g_p}
 use Rattle.apages.specs.Index.{every_group}
-use Rattle.apages.proofs.ChangeLaws.{group-part, groups-start, groups-stop, groups-go, groups-end}
-use Rattle.session.specs.Fits.{entry_at_most, group_at_most, index_at_most}
+use Rattle.session.specs.Fits.{group_at_most, index_at_most}
 use Rattle.session_agree.proofs.index_at_most.Given as goal
 
 abbrev pub invariant-loop-p : goal.invariant-loop-p

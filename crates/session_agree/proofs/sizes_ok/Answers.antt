@@ -4,7 +4,6 @@ use mathlib.Core.Path.{sym, ◌∙◌, ap}
 use borrow.Author.Tests.{not-true, not-false}
 use Rattle.counts.proofs.GeoLaws.{limits}
 use Rattle.session.specs.Fits.{sizes_ok}
-use borrow.Author.Rules.{rules}
 use Rattle.session_agree.proofs.sizes_ok.Goals as goal
 
 pub returns-then-not-inside : goal.returns-then-not-inside

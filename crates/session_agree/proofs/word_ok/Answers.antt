@@ -1,6 +1,5 @@
 -- `session_agree::word_ok` meets its contract: by whether the session is worn. Assumes nothing.
 use Rattle.session.proofs.FitTests.{word-worn, word-open}
-use borrow.Author.Rules.{rules}
 use Rattle.session_agree.proofs.word_ok.Goals as goal
 
 pub returns-then-worn : goal.returns-then-worn

@@ -2,7 +2,6 @@
 use mathlib.Core.Bool.{not}
 use mathlib.Core.Path.{ap}
 use Rattle.session.proofs.FitTests.{fits-no, fits-laid, fits-table, fits-views, fits-stamps}
-use borrow.Author.Rules.{rules}
 use Rattle.session_fit.proofs.fits.Goals as goal
 
 pub returns-then-not-sizes : goal.returns-then-not-sizes

@@ -1,6 +1,5 @@
 -- `session_fit::stamps_fit` meets its contract: the entries, then the index. Assumes nothing.
 use Rattle.session.proofs.FitTests.{stamps-here}
-use borrow.Author.Rules.{rules}
 use Rattle.session_fit.proofs.stamps_fit.Goals as goal
 
 pub returns : goal.returns

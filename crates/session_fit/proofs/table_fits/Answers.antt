@@ -2,7 +2,6 @@
 use mathlib.Core.Bool.{not}
 use mathlib.Core.Path.{ap}
 use Rattle.session.proofs.FitTests.{table-no, table_here}
-use borrow.Author.Rules.{rules}
 use Rattle.session_fit.proofs.table_fits.Goals as goal
 
 pub returns-then-not-head : goal.returns-then-not-head

@@ -1,6 +1,5 @@
 -- `session_fit::views_fit` meets its contract: by what its calls ensure of both views. Assumes nothing.
 use Rattle.session.proofs.FitTests.{views-here}
-use borrow.Author.Rules.{rules}
 use Rattle.session_fit.proofs.views_fit.Goals as goal
 
 pub returns : goal.returns

@@ -1,7 +1,6 @@
 -- Its two tests in their order. Assumes nothing.
 use mathlib.Core.Bool.{not}
 use mathlib.Core.Path.{ap}
-use borrow.Author.Rules.{rules}
 use borrow.Author.Tests.{eqb-true, eqb-false}
 use Rattle.store.proofs.CallLaws.{passed, failed}
 use Rattle.store.proofs.SyncCalls.{sync-number-1, sync-number-9, sync-number-0}

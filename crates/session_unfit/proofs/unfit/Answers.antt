@@ -1,5 +1,4 @@
 -- Closed, or the fit test turned round. Assumes nothing.
-use borrow.Author.Rules.{rules}
 use Rattle.store.proofs.Fitting.{unfit-closed, unfit-open}
 use Rattle.session_unfit.proofs.unfit.Goals as goal
 

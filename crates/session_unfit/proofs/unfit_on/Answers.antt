@@ -1,7 +1,6 @@
 -- Closed, another length, or the fit test turned round. Assumes nothing.
 use mathlib.Core.Bool.{not}
 use mathlib.Core.Path.{ap}
-use borrow.Author.Rules.{rules}
 use borrow.Author.Tests.{eqb-true, eqb-false}
 use Rattle.store.proofs.CallLaws.{passed, failed}
 use Rattle.store.proofs.Fitting.{unfit-on-closed, unfit-on-1, unfit-on-open}

@@ -1,5 +1,4 @@
 -- The one test, then the inner call. Assumes nothing.
-use borrow.Author.Rules.{rules}
 use Rattle.store.proofs.Fitting.{fit_on, met-unfit-on}
 use Rattle.store.proofs.CardLaws.{land-2}
 use Rattle.store_card.proofs.land.Goals as goal

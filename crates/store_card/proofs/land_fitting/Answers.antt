@@ -1,7 +1,6 @@
 -- Its tests in their order; the fit that it requires gives both lengths. Assumes nothing.
 use mathlib.Core.Bool.{not}
 use mathlib.Core.Path.{ap}
-use borrow.Author.Rules.{rules}
 use borrow.Author.Tests.{eqb-true, eqb-false}
 use native.Mathlib.Omega.{arith}
 use Rattle.store.proofs.CallLaws.{passed, failed}

@@ -1,6 +1,5 @@
 -- Its tests as one number, then its steps. Assumes nothing.
 use mathlib.Core.Path.{refl}
-use borrow.Author.Rules.{rules}
 use Rattle.store.proofs.CardLaws.{mount-stop, mount-can, mount-done}
 use Rattle.store_card.proofs.mount.Goals as goal
 

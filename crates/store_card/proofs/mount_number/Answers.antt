@@ -1,7 +1,6 @@
 -- Its tests in their order. Assumes nothing.
 use mathlib.Core.Bool.{not}
 use mathlib.Core.Path.{ap}
-use borrow.Author.Rules.{rules}
 use Rattle.store.proofs.CallLaws.{passed, failed}
 use Rattle.store.proofs.CardLaws.{mount-shaped, mount-number-1, mount-number-2, mount-number-3, mount-number-0}
 use Rattle.store_card.proofs.mount_number.Goals as goal

@@ -1,5 +1,4 @@
 -- The one test, then the inner call. Assumes nothing.
-use borrow.Author.Rules.{rules}
 use mathlib.Core.Path.{◌∙◌}
 use Rattle.store.proofs.Fitting.{fit_on, met-unfit-on}
 use Rattle.store.proofs.SyncCalls.{sync-2}

@@ -1,5 +1,4 @@
 -- Its tests in their order; the fit that it requires gives what the steps ask. Assumes nothing.
-use borrow.Author.Rules.{rules}
 use mathlib.Core.Path.{refl}
 use Rattle.store.proofs.Fitting.{open-fits-on}
 use Rattle.store.proofs.WriteLaws.{can-sync}

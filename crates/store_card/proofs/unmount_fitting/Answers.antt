@@ -1,6 +1,5 @@
 -- Its tests in their order; the fit that it requires gives what the steps ask. Assumes nothing.
 use mathlib.Core.Bool.{not}
-use borrow.Author.Rules.{rules}
 use borrow.Author.Tests.{eqb-true, eqb-false}
 use mathlib.Core.Path.{refl, ap}
 use Rattle.store.proofs.CallLaws.{passed, failed}

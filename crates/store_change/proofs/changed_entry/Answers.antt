@@ -1,5 +1,4 @@
 -- The entry's bytes, how its stamp stands, and the change. Assumes nothing.
-use borrow.Author.Rules.{rules}
 use Rattle.store.proofs.ViewLaws.{changed-here}
 use Rattle.store_change.proofs.changed_entry.Goals as goal
 

@@ -1,6 +1,5 @@
 -- Every decision is made before the first write; content and entry leave the table and the index as they are. Assumes nothing.
 use native.Mathlib.Omega.{arith}
-use borrow.Author.Rules.{rules}
 use Rattle.counts.proofs.TableLaws.{pages-few}
 use Rattle.store.proofs.ViewLaws.{run-at-here}
 use Rattle.store.proofs.EditLaws.{edit-laid, edit-pair, edit-done}

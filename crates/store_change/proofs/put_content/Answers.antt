@@ -1,5 +1,4 @@
 -- The content and the zeros behind it are one splice. Assumes nothing.
-use borrow.Author.Rules.{rules}
 use Rattle.store.proofs.EditLaws.{content-put}
 use Rattle.store_change.proofs.put_content.Goals as goal
 

@@ -1,7 +1,6 @@
 -- The content's sectors, counted. Assumes nothing.
 use mathlib.Core.Path.{◌∙◌}
 use native.Mathlib.Omega.{arith}
-use borrow.Author.Rules.{rules}
 use Rattle.counts.proofs.TableLaws.{pages-few}
 use Rattle.card.specs.Files.{run_of}
 use Rattle.store.specs.Edit.{put_run, put_work}

@@ -1,5 +1,4 @@
 -- A change with no content. Assumes nothing.
-use borrow.Author.Rules.{rules}
 use Rattle.store.specs.Edit.{remove_work}
 use Rattle.store.proofs.RoomLaws.{can-remove}
 use Rattle.store_change.proofs.remove_in.Goals as goal

@@ -1,5 +1,4 @@
 -- Put with goal 0. Assumes nothing.
-use borrow.Author.Rules.{rules}
 use Rattle.store.specs.Edit.{put}
 use Rattle.store_edit.proofs.put.Goals as goal
 

@@ -1,6 +1,5 @@
 -- Its tests in their order; what they showed, and the fit that it requires, is what the change asks. Assumes nothing.
 use mathlib.Core.Bool.{not}
-use borrow.Author.Rules.{rules}
 use mathlib.Core.Path.{ap, sym, ◌∙◌}
 use Rattle.store.proofs.Fitting.{open-fits}
 use Rattle.store.proofs.RoomLaws.{can-put}

@@ -1,7 +1,6 @@
 -- Two sectors lent as parts. Assumes nothing.
 use mathlib.Core.Path.{◌∙◌}
 use Rattle.sectors.proofs.SectorLaws.{sec-part}
-use borrow.Author.Rules.{rules}
 use Rattle.store_figures.proofs.between.Goals as goal
 
 pub returns : goal.returns

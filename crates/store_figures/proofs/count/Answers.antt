@@ -1,5 +1,4 @@
 -- From the ones of both pages taken together, and those of the first. Assumes nothing.
-use borrow.Author.Rules.{rules}
 use Rattle.store_figures.proofs.FigureLaws.{busy-most, own-most, by_ones}
 use Rattle.store_figures.proofs.count.Goals as goal
 

@@ -1,18 +1,11 @@
 -- The loop's invariant: both figures of the pairs passed are counted. Assumes nothing.
-use mathlib.Core.Path.{◌≡◌, ap}
-use Prim.Native.Nat.{◌+◌, ◌-◌, ◌*◌, ◌≤◌}
+use mathlib.Core.Path.{ap}
 use native.Mathlib.Omega.{arith}
-use borrow.Author.Rules.{rules}
-use lib.ListN.{length}
-use Rattle.sectors.specs.Sectors.{sec}
-use Rattle.counts.specs.Geometry.{g_p}
-use Rattle.counts.specs.Stamps.{table_in}
 use Rattle.apages.specs.Free.{free_in, waiting_in}
 use Rattle.apages.proofs.FreeLaws.{free-empty, waiting-empty, free-over, waiting-over}
-use Rattle.apages.specs.Index.{page_in}
 use Rattle.card.proofs.ViewLaws.{page-room}
 use Rattle.store_figures.specs.declared.Figures.{Figures}
-use Rattle.store_figures.proofs.FigureLaws.{both-figures, left_in, page-most, figure-start, figure-turn, figure-end}
+use Rattle.store_figures.proofs.FigureLaws.{both-figures, page-most, figure-start, figure-turn, figure-end}
 use Rattle.store_figures.proofs.figures_in.Goals as goal
 
 pub loop-p-init : goal.loop-p-init

@@ -1,18 +1,12 @@
 -- The loop's invariant: both figures of the pairs passed are counted. Assumes nothing.
-use mathlib.Core.Path.{◌≡◌, ap}
+use mathlib.Core.Path.{◌≡◌}
 use Prim.Native.Nat.{◌+◌, ◌-◌, ◌*◌, ◌≤◌}
-use native.Mathlib.Omega.{arith}
-use borrow.Author.Rules.{rules}
-use lib.ListN.{length}
 use Rattle.sectors.specs.Sectors.{sec}
 use Rattle.counts.specs.Geometry.{g_p}
 use Rattle.counts.specs.Stamps.{table_in}
 use Rattle.apages.specs.Free.{free_in, waiting_in}
-use Rattle.apages.proofs.FreeLaws.{free-empty, waiting-empty, free-over, waiting-over}
 use Rattle.apages.specs.Index.{page_in}
-use Rattle.card.proofs.ViewLaws.{page-room}
-use Rattle.store_figures.specs.declared.Figures.{Figures}
-use Rattle.store_figures.proofs.FigureLaws.{both-figures, left_in, page-most, figure-start, figure-turn, figure-end}
+use Rattle.store_figures.proofs.FigureLaws.{left_in}
 use Rattle.store_figures.proofs.figures_in.Given as goal
 
 abbrev pub invariant-loop-p : goal.invariant-loop-p

@@ -1,7 +1,6 @@
 -- The goal's pages from the goal on, then those of the later pairs. Assumes nothing.
 use mathlib.Core.Path.{ap}
 use native.Mathlib.Omega.{arith}
-use borrow.Author.Rules.{rules}
 use Rattle.counts.proofs.TableLaws.{pages-cover, pages-few}
 use Rattle.apages.proofs.ImageSearch.{after-here, after-later}
 use Rattle.store_find.specs.Inner.{found_of}

@@ -1,7 +1,6 @@
 -- The pages before the goal's, then what a run from below the goal can reach of its own. Assumes nothing.
 use mathlib.Core.Path.{ap}
 use native.Mathlib.Omega.{arith}
-use borrow.Author.Rules.{rules}
 use Rattle.counts.proofs.TableLaws.{pages-cover}
 use Rattle.apages.proofs.ImageSearch.{below-before, below-page}
 use Rattle.store_find.specs.Inner.{found_of}

@@ -1,7 +1,6 @@
 -- At or after the goal, else the lowest. Assumes nothing.
 use mathlib.Core.Path.{ap, sym, ◌∙◌}
 use native.Mathlib.Omega.{arith}
-use borrow.Author.Rules.{rules}
 use Rattle.counts.proofs.TableLaws.{pages-cover}
 use Rattle.apages.proofs.ImageSearch.{goal-after, goal-below}
 use Rattle.store_find.specs.Inner.{found_of}

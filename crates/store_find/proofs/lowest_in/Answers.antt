@@ -1,12 +1,6 @@
 -- What is found in the pages that are left. Assumes nothing.
-use mathlib.Core.Path.{◌≡◌, ap, refl}
-use Prim.Native.Nat.{◌-◌, ◌*◌}
+use mathlib.Core.Path.{ap, refl}
 use native.Mathlib.Omega.{arith}
-use borrow.Author.Rules.{rules}
-use Rattle.sectors.specs.Sectors.{sec}
-use Rattle.counts.specs.Stamps.{table_in}
-use Rattle.apages.specs.Index.{page_at}
-use Rattle.apages.specs.Inner.{run_from, run_within, further}
 use Rattle.apages.proofs.ImageSearch.{search-found, search-go, search-end}
 use Rattle.store_find.specs.Inner.{found_of}
 use Rattle.store_find.proofs.PageLaws.{pages-found, pages-held}

@@ -1,15 +1,9 @@
 -- What is found in the pages that are left. Assumes nothing.
-use mathlib.Core.Path.{◌≡◌, ap, refl}
-use Prim.Native.Nat.{◌-◌, ◌*◌}
-use native.Mathlib.Omega.{arith}
-use borrow.Author.Rules.{rules}
+use mathlib.Core.Path.{◌≡◌}
+use Prim.Native.Nat.{◌-◌}
 use Rattle.sectors.specs.Sectors.{sec}
 use Rattle.counts.specs.Stamps.{table_in}
-use Rattle.apages.specs.Index.{page_at}
-use Rattle.apages.specs.Inner.{run_from, run_within, further}
-use Rattle.apages.proofs.ImageSearch.{search-found, search-go, search-end}
-use Rattle.store_find.specs.Inner.{found_of}
-use Rattle.store_find.proofs.PageLaws.{pages-found, pages-held}
+use Rattle.apages.specs.Inner.{run_from}
 use Rattle.store_find.proofs.lowest_in.Given as goal
 
 abbrev pub invariant-loop-p : goal.invariant-loop-p

@@ -1,6 +1,5 @@
 -- Each view's page. Assumes nothing.
 use mathlib.Core.Path.{refl}
-use borrow.Author.Rules.{rules}
 use Rattle.store_find.proofs.pages_at.Goals as goal
 
 pub returns : goal.returns

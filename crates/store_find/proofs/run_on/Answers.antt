@@ -1,10 +1,6 @@
 -- What is found in the two pages, as a sector of the card. Assumes nothing.
-use mathlib.Core.Path.{◌≡◌}
-use Prim.Native.Nat.{ℕ, ◌+◌, ◌≤◌}
 use native.Mathlib.Omega.{arith}
-use Rattle.words.specs.declared.Found.TheVariants.{At}
 use Rattle.apages.proofs.ImageSearch.{further-at, further-none}
-use borrow.Author.Rules.{rules}
 use Rattle.store_find.proofs.PageLaws.{pages-inside}
 use Rattle.store_find.proofs.run_on.Goals as goal
 

@@ -1,6 +1,5 @@
 -- Rounding up without a sum past the end. Assumes nothing.
 use native.Mathlib.Omega.{arith}
-use borrow.Author.Rules.{rules}
 use Rattle.entries.specs.Entries.{sectors_for}
 use Rattle.store_find.proofs.sectors_of.Goals as goal
 

@@ -1,7 +1,6 @@
 -- Its tests in their order; the shape gives the layout. Assumes nothing.
 use mathlib.Core.Bool.{not}
 use mathlib.Core.Path.{ap}
-use borrow.Author.Rules.{rules}
 use Rattle.card.proofs.SoundTests.{shape-length, shape-laid, shape-limits}
 use Rattle.store.proofs.CallLaws.{passed, failed}
 use Rattle.store_listing.proofs.CardListing.{card-1, card-2, card-go}

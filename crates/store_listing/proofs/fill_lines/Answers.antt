@@ -4,7 +4,7 @@ use mathlib.Core.List.{List}
 use Prim.Native.Nat.{ℕ, ◌+◌}
 use native.Mathlib.Numerals.{add-one}
 use native.Mathlib.Omega.{arith}
-use lib.ListN.{length, get_or, set}
+use lib.ListN.{get_or, set}
 use Rattle.card.specs.declared.Line.{Line}
 use Rattle.card.specs.Files.{no_line}
 use Rattle.store_listing.specs.Listings.{files_at, filled_to}

@@ -1,5 +1,4 @@
 -- Its one test. Assumes nothing.
-use borrow.Author.Rules.{rules}
 use Rattle.store_listing.proofs.ListingTests.{in-10, in-done}
 use Rattle.store_listing.proofs.listing_in.Goals as goal
 

@@ -1,5 +1,4 @@
 -- From what its call says. Assumes nothing.
-use borrow.Author.Rules.{rules}
 use Rattle.store_listing.specs.Listings.{files_from}
 use Rattle.store_listing.proofs.next_of.Goals as goal
 

@@ -1,5 +1,4 @@
 -- From what its call says. Assumes nothing.
-use borrow.Author.Rules.{rules}
 use Rattle.store_listing.specs.Listings.{no_listing}
 use Rattle.store_listing.proofs.no_listing.Goals as goal
 

@@ -1,5 +1,4 @@
 -- The one test, then the inner call. Assumes nothing.
-use borrow.Author.Rules.{rules}
 use Rattle.store.proofs.Fitting.{fit_of, met-unfit}
 use Rattle.store.proofs.LookLaws.{get-2}
 use Rattle.store_look.proofs.get.Goals as goal

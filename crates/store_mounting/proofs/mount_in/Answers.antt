@@ -1,6 +1,5 @@
 -- All steps of mount, and the copy. Assumes nothing.
 use mathlib.Core.Path.{◌∙◌}
-use borrow.Author.Rules.{rules}
 use Rattle.store.specs.Steps.{mount_steps}
 use Rattle.store.specs.Mount.{mount_done}
 use Rattle.store_mounting.proofs.mount_in.Goals as goal

@@ -1,10 +1,8 @@
 -- At the head of the loop the first i steps are done. Assumes nothing.
 use mathlib.Core.Path.{◌≡◌, refl, ap, ◌∙◌}
 use mathlib.Core.List.{List}
-use Prim.Native.Nat.{◌≤◌, ◌-◌}
-use borrow.Author.Rules.{rules}
 use native.Mathlib.Omega.{arith}
-use lib.ListN.{length, take}
+use lib.ListN.{length}
 use Rattle.sectors.specs.Sectors.{Step, apply_steps}
 use Rattle.sectors.proofs.SectorLaws.{apply_steps-length, steps-turn}
 use Rattle.store.specs.Steps.{mount_steps}

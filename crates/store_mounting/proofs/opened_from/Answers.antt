@@ -1,6 +1,5 @@
 -- The words that mount reads. Assumes nothing.
 use native.Mathlib.Omega.{arith}
-use borrow.Author.Rules.{rules}
 use Rattle.store.proofs.WriteLaws.{opened-here, word_fits}
 use Rattle.store_mounting.proofs.opened_from.Goals as goal
 

@@ -1,6 +1,5 @@
 -- A sector read, and a word put into it. Assumes nothing.
 use mathlib.Core.Path.{◌∙◌}
-use borrow.Author.Rules.{rules}
 use Rattle.sectors.proofs.SectorLaws.{sec-part}
 use Rattle.store_mounting.proofs.sector_with.Goals as goal
 

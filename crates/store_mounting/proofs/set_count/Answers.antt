@@ -1,5 +1,4 @@
 -- One word put. Assumes nothing.
-use borrow.Author.Rules.{rules}
 use Rattle.store.specs.Steps.{set_count}
 use Rattle.store_mounting.proofs.set_count.Goals as goal
 

@@ -1,6 +1,5 @@
 -- By whether t is at its top. Assumes nothing.
 use mathlib.Core.Path.{sym, ◌∙◌}
-use borrow.Author.Rules.{rules}
 use Rattle.store.specs.Sync.{grown}
 use Rattle.store_syncing.proofs.after_sync.Goals as goal
 

@@ -1,5 +1,4 @@
 -- The definition, unfolded. Assumes nothing.
-use borrow.Author.Rules.{rules}
 use Rattle.store.specs.Steps.{at_top}
 use Rattle.store_syncing.proofs.at_top.Goals as goal
 

@@ -1,13 +1,10 @@
 -- At the head of the loop the first i places are done, and their writes counted. Assumes nothing.
 use mathlib.Core.Path.{◌≡◌, refl, ap, ◌∙◌}
-use mathlib.Core.List.{[]}
-use Prim.Native.Nat.{◌+◌, ◌-◌, ◌≤◌}
-use borrow.Author.Rules.{rules}
+use Prim.Native.Nat.{◌+◌, ◌-◌}
 use native.Mathlib.Omega.{arith}
-use lib.ListN.{length, take}
+use lib.ListN.{length}
 use Rattle.sectors.specs.Sectors.{apply_steps}
 use Rattle.sectors.proofs.SectorLaws.{apply_steps-length, steps-turn}
-use Rattle.store.specs.Steps.{all_steps, written_at}
 use Rattle.store.proofs.WriteLaws.{can-still}
 use Rattle.store.proofs.SyncCounts.{written_none, written-turn}
 use Rattle.store_syncing.proofs.LastPlace.{sync-to}

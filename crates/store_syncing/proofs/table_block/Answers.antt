@@ -1,7 +1,6 @@
 -- The sector that holds word c. Assumes nothing.
 use mathlib.Core.Path.{sym, ◌∙◌}
 use Rattle.store.proofs.WriteLaws.{word-sector}
-use borrow.Author.Rules.{rules}
 use Rattle.store_syncing.proofs.table_block.Goals as goal
 
 pub returns : goal.returns

@@ -6,7 +6,6 @@ use Rattle.sectors.specs.Sectors.{apply_steps}
 use Rattle.store.specs.Steps.{at_top, down_steps}
 use Rattle.store.proofs.SyncLaws.{unmount-worn, unmount-sync, unmount-past, unmount-top, unmount-down}
 use Rattle.store.proofs.SyncCounts.{count-rest, counts-live, counts-worn}
-use borrow.Author.Rules.{rules}
 use Rattle.store_syncing.proofs.unmount_step.Goals as goal
 
 pub returns-then-s : goal.returns-then-s

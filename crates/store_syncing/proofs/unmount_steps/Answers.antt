@@ -1,12 +1,10 @@
 -- At the head of the loop the first i places are done, and the writes of sync among them counted. Assumes nothing.
 use mathlib.Core.Path.{◌≡◌, refl, ap, ◌∙◌}
-use Prim.Native.Nat.{◌+◌, ◌-◌, ◌≤◌}
-use borrow.Author.Rules.{rules}
+use Prim.Native.Nat.{◌+◌, ◌-◌}
 use native.Mathlib.Omega.{arith}
-use lib.ListN.{length, take}
+use lib.ListN.{length}
 use Rattle.sectors.specs.Sectors.{apply_steps}
 use Rattle.sectors.proofs.SectorLaws.{apply_steps-length, steps-turn}
-use Rattle.store.specs.Steps.{all_down, counted_at}
 use Rattle.store.proofs.WriteLaws.{can-still}
 use Rattle.store.proofs.SyncCounts.{counted_none, counted-turn}
 use Rattle.store_syncing.proofs.LastPlace.{down_to}

@@ -1,6 +1,5 @@
 -- By whether the session is worn, and whether t is at its top. Assumes nothing.
 use mathlib.Core.Path.{sym, ◌∙◌}
-use borrow.Author.Rules.{rules}
 use Rattle.store.specs.Steps.{at_top, sync_work, down_work, unmount_work, unmount_work_by}
 use Rattle.store_syncing.proofs.unmount_work.Goals as goal
 

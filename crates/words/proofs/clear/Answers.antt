@@ -1,6 +1,5 @@
 -- `words::clear` meets its contract: zeros written over everything are what is there. Assumes nothing.
 use mathlib.Core.Path.{◌∙◌}
-use borrow.Author.Rules.{rules}
 use lib.ListN.{length-replicate}
 use Rattle.words.proofs.SpliceLaws.{splice-whole}
 use Rattle.words.proofs.clear.Goals as goal

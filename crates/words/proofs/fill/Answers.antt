@@ -1,6 +1,5 @@
 -- `words::fill` meets its contract: bytes written over everything are what is there. Assumes nothing.
 use mathlib.Core.Path.{◌∙◌}
-use borrow.Author.Rules.{rules}
 use Rattle.words.proofs.SpliceLaws.{splice-whole}
 use Rattle.words.proofs.fill.Goals as goal
 

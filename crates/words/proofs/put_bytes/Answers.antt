@@ -1,10 +1,8 @@
 -- `words::put_bytes` meets its contract. In the loop the first i bytes of `from` are written. Assumes nothing.
-use mathlib.Core.Path.{◌≡◌, sym, ap, ◌∙◌}
-use Prim.Native.Nat.{◌≤◌, ◌-◌}
+use mathlib.Core.Path.{sym, ap, ◌∙◌}
 use native.Mathlib.Omega.{arith}
-use lib.ListN.{length, take}
+use lib.ListN.{length}
 use lib.Seq.{take_all}
-use Rattle.words.specs.Lists.{splice}
 use Rattle.words.proofs.SpliceLaws.{splice-length, splice-nil, splice-turn}
 use Rattle.words.proofs.put_bytes.Goals as goal
 

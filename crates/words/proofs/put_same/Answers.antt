@@ -1,10 +1,8 @@
 -- The loop's invariant: the first i bytes are x. Assumes nothing.
 use mathlib.Core.Path.{◌≡◌, sym, ap, ◌∙◌}
-use Prim.Native.Nat.{◌-◌, ◌≤◌}
 use native.Mathlib.Numerals.{add-one}
 use native.Mathlib.Omega.{arith}
-use lib.ListN.{length, replicate}
-use Rattle.words.specs.Lists.{splice}
+use lib.ListN.{length}
 use Rattle.words.proofs.SpliceLaws.{splice-length, splice-nil}
 use Rattle.words.proofs.SameLaws.{same_more}
 use Rattle.words.proofs.put_same.Goals as goal

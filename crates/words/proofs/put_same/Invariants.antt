@@ -1,12 +1,8 @@
 -- The loop's invariant: the first i bytes are x. Assumes nothing.
-use mathlib.Core.Path.{◌≡◌, sym, ap, ◌∙◌}
+use mathlib.Core.Path.{◌≡◌}
 use Prim.Native.Nat.{◌-◌, ◌≤◌}
-use native.Mathlib.Numerals.{add-one}
-use native.Mathlib.Omega.{arith}
-use lib.ListN.{length, replicate}
+use lib.ListN.{replicate}
 use Rattle.words.specs.Lists.{splice}
-use Rattle.words.proofs.SpliceLaws.{splice-length, splice-nil}
-use Rattle.words.proofs.SameLaws.{same_more}
 use Rattle.words.proofs.put_same.Given as goal
 
 abbrev pub invariant-loop-i : goal.invariant-loop-i

@@ -1,5 +1,4 @@
 -- `words::put_word` meets its contract: four stores in a row are a splice. Assumes nothing.
-use borrow.Author.Rules.{rules}
 use native.Mathlib.Omega.{arith}
 use lib.ListN.{length-set}
 use Rattle.words.specs.Bytes.{word_bytes}

@@ -1,12 +1,9 @@
 -- The loop's invariant: the answer is what was seen so far, and that for what is left of both. Assumes nothing.
-use mathlib.Core.Path.{◌≡◌, refl}
+use mathlib.Core.Path.{◌≡◌}
 use mathlib.Core.Bool.{◌&&◌}
 use Prim.Native.Nat.{◌-◌, ◌≤◌}
-use native.Mathlib.Omega.{arith}
 use lib.ListN.{length, drop}
-use borrow.Author.Rules.{rules}
 use Rattle.words.specs.Lists.{eq_list}
-use Rattle.words.proofs.EveryLaws.{eq_list-go, eq_list-end, eq_list-other}
 use Rattle.words.proofs.same.Given as goal
 
 abbrev pub invariant-loop-i : goal.invariant-loop-i

@@ -1,11 +1,8 @@
 -- The loop's invariant: the answer is what was seen so far, and that for what is left. Assumes nothing.
-use mathlib.Core.Path.{◌≡◌, refl}
-use mathlib.Core.Bool.{◌&&◌}
-use Prim.Native.Nat.{◌-◌, ◌≤◌}
+use mathlib.Core.Path.{refl}
 use native.Mathlib.Omega.{arith}
-use lib.ListN.{length, drop, get_or}
-use borrow.Author.Rules.{rules}
-use Rattle.words.specs.Lists.{every, is_zero}
+use lib.ListN.{get_or}
+use Rattle.words.specs.Lists.{is_zero}
 use Rattle.words.proofs.EveryLaws.{seen-go, seen_end}
 use Rattle.words.proofs.zeros.Goals as goal
 

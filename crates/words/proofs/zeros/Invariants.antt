@@ -1,12 +1,9 @@
 -- The loop's invariant: the answer is what was seen so far, and that for what is left. Assumes nothing.
-use mathlib.Core.Path.{◌≡◌, refl}
+use mathlib.Core.Path.{◌≡◌}
 use mathlib.Core.Bool.{◌&&◌}
 use Prim.Native.Nat.{◌-◌, ◌≤◌}
-use native.Mathlib.Omega.{arith}
-use lib.ListN.{length, drop, get_or}
-use borrow.Author.Rules.{rules}
+use lib.ListN.{length, drop}
 use Rattle.words.specs.Lists.{every, is_zero}
-use Rattle.words.proofs.EveryLaws.{seen-go, seen_end}
 use Rattle.words.proofs.zeros.Given as goal
 
 abbrev pub invariant-loop-i : goal.invariant-loop-i
