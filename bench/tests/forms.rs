@@ -193,7 +193,7 @@ fn tight_compares_every_inner_call_with_its_public_one() {
             if f.public && f.requires {
                 inner += 1;
                 let plain = format!(" {function}.Pre {function}.Post ");
-                let lines = format!(".ended (λ M 𝓤. {function}.clauses 𝓤) ");
+                let lines = format!(".ended (λ M 𝓤 𝓛. {function}.clauses 𝓛) ");
                 let stands = text.contains(&plain) || text.contains(&lines);
                 assert!(stands, "{name}::{function}");
             }
