@@ -203,25 +203,39 @@ fn tight_compares_every_inner_call_with_its_public_one() {
     assert_eq!(inner, stated);
 }
 
+/// The arguments of a call: the text between its parentheses, at the commas that stand in no other bracket.
+fn arguments(text: &str) -> Vec<&str> {
+    let mut depth = 0;
+    let between = |c: char| {
+        depth += i32::from("([{".contains(c)) - i32::from(")]}".contains(c));
+        c == ',' && depth == 0
+    };
+    text.split(between).map(str::trim).collect()
+}
+
 /// The lines of a body that hand a buffer on to be written, or write to it themselves.
 fn writes(f: &Function, buffer: &str, all: &BTreeMap<String, Function>) -> Vec<String> {
-    let writes_here = |line: &str| {
-        if line.contains(&format!("{buffer}[")) && !line.contains(&format!("&{buffer}[")) {
-            return true;
-        }
-        let Some(open) = line.find('(') else {
-            return false;
-        };
-        let callee = line[..open].rsplit([' ', ':', '(']).next().unwrap_or("");
-        let (arguments, _) = bracketed(&line[open..]);
-        let at = arguments
-            .split(',')
-            .position(|a| a.trim().trim_start_matches("&mut ").starts_with(buffer));
+    let hands_on = |line: &str, open: usize| {
+        let callee = line[..open]
+            .rsplit([' ', ':', '(', '!'])
+            .next()
+            .unwrap_or("");
+        let (inside, _) = bracketed(&line[open..]);
+        let at = arguments(inside)
+            .iter()
+            .position(|a| a.trim_start_matches("&mut ").starts_with(buffer));
         match (at, all.get(callee)) {
             (Some(at), Some(g)) => g.written().contains(&at),
             (Some(_), None) => callee != "len",
             (None, _) => false,
         }
+    };
+    let writes_here = |line: &str| {
+        if line.contains(&format!("{buffer}[")) && !line.contains(&format!("&{buffer}[")) {
+            return true;
+        }
+        line.match_indices('(')
+            .any(|(open, _)| hands_on(line, open))
     };
     f.body
         .iter()
@@ -269,12 +283,10 @@ fn a_call_hands_the_card_on_in_one_line() {
     }
 }
 
-/// Whether a body ends with a line, or with it and the number of writes alone.
-fn ends_with(body: &[String], line: &str) -> bool {
-    let mut last = body.iter().rev().map(|l| l.trim());
-    let first = last.next();
-    first == Some(line)
-        || (first.is_some_and(|l| l.parse::<u32>().is_ok()) && last.next() == Some(line))
+/// Whether a loop begins on a line.
+fn begins_loop(line: &str) -> bool {
+    let words = ["for ", "while ", "loop "];
+    words.iter().any(|word| line.trim().starts_with(word))
 }
 
 #[test]
@@ -289,10 +301,16 @@ fn a_step_writes_at_most_one_sector_on_each_path() {
     ] {
         let f = &all[step];
         let lines = writes(f, "card", &all);
-        assert!(!lines.is_empty(), "{step} writes");
-        for line in lines {
-            let ends = line.starts_with("return ") || ends_with(&f.body, &line);
+        let Some((_, earlier)) = lines.split_last() else {
+            panic!("{step} writes");
+        };
+        for line in earlier {
+            let ends = line.starts_with("return ");
             assert!(ends, "{step} goes on after it wrote: {line}");
+        }
+        assert!(!f.body.iter().any(|l| begins_loop(l)), "{step} loops");
+        for line in lines {
+            assert!(!line.contains('|'), "{step} writes in a closure: {line}");
             let by = [
                 "write_sector(",
                 "copy_changed(",

@@ -1,13 +1,16 @@
 -- A run that is whole bytes of bits, and runs set one after the other. Assumes nothing.
 use mathlib.Core.Path.{◌≡◌, sym, ap, ◌∙◌}
-use mathlib.Core.List.{List}
-use Prim.Native.Nat.{ℕ, zero, suc, ◌+◌, ◌*◌, ◌/◌, ◌%◌, ◌≤◌, ◌<◌}
+use mathlib.Core.Bool.{Bool}
+use mathlib.Core.List.{List, ◌++◌}
+use Prim.Native.Nat.{ℕ, zero, suc, ◌+◌, ◌-◌, ◌*◌, ◌/◌, ◌%◌, ◌≤◌, ◌<◌}
 use native.Mathlib.Decide.{ℕ_discrete}
 use native.Mathlib.Omega.{arith}
-use lib.ListN.{length, get_or, set, replicate, length-replicate}
-use lib.Seq.{get_or-set_same, set-get_or, set-set}
+use lib.ListN.{length, take, drop, get_or, set, replicate, length-replicate, length-drop}
+use lib.Seq.{get_or-set_same, set-get_or, set-set, length-take-le}
+use Rattle.words_sums.specs.Sums.{bit}
+use Rattle.apages.proofs.BitLaws.{bit-two}
 use Rattle.words.specs.Lists.{splice}
-use Rattle.words.proofs.SpliceLaws.{splice-length, splice-nil, splice-after}
+use Rattle.words.proofs.SpliceLaws.{splice-length, splice-nil, splice-after, part-back}
 use Rattle.words.proofs.SameLaws.{same_more}
 use Rattle.apages.specs.Bits.{digit, put_digit, put_bit, set_run}
 use Rattle.apages.proofs.BitLaws.{digit-zero, digit-full, digit-same, digit-other, digits-ext, put_digit-lt}
@@ -60,8 +63,12 @@ join_runs p a i (suc r) v =
     let f : a + i + r ≡ a + (i + r) = omega arith in
     rw (e, f, join_runs p a i r v)
 
-pub run-next : (p : List ℕ) {d e : List ℕ} (a i r v : ℕ) → d ≡ set_run p a i v → e ≡ set_run d (a + i) r v → e ≡ set_run p a (i + r) v
-run-next p a i r v x y = y ∙ ap (λ l. set_run l (a + i) r v) x ∙ join_runs p a i r v
+-- a turn of a loop that sets a run: the bits below sector n are set, and then r more
+pub run-next : (p : List ℕ) {d e : List ℕ} (a n r v : ℕ) → a ≤ n → d ≡ set_run p a (n - a) v → e ≡ set_run d n r v → e ≡ set_run p a (n + r - a) v
+run-next p a n r v h x y =
+    let f : a + (n - a) ≡ n = omega arith in
+    let g : n - a + r ≡ n + r - a = omega arith in
+    y ∙ ap (λ l. set_run l n r v) x ∙ rw (f, g) at (join_runs p a (n - a) r v)
 
 -- one bit is a run of one
 pub run-one : (p : List ℕ) {q : List ℕ} (n v : ℕ) → q ≡ put_bit p n v → q ≡ set_run p n 1 v
@@ -69,7 +76,7 @@ unfolding set_run
 run-one p n v e = let f : n ≡ n + 0 = omega arith in e ∙ ap (λ (k : ℕ). put_bit p k v) f
 
 -- the bits of m bytes from byte j on: the bytes are all alike
-pub bytes_same : (p : List ℕ) → ((i : ℕ) → get_or p i 0 < 256) → (j m v : ℕ) → v < 2 → j + m ≤ length p → splice p j (replicate m (255 * v)) ≡ set_run p (8 * j) (8 * m) v
+bytes_same : (p : List ℕ) → ((i : ℕ) → get_or p i 0 < 256) → (j m v : ℕ) → v < 2 → j + m ≤ length p → splice p j (replicate m (255 * v)) ≡ set_run p (8 * j) (8 * m) v
 bytes_same p small j zero v two h = splice-nil p j ∙ sym (run_none p (8 * j) v)
 bytes_same p small j (suc m) v two h =
     let q = splice p j (replicate m (255 * v)) in
@@ -85,3 +92,11 @@ bytes_same p small j (suc m) v two h =
 -- a byte's run starts at its first sector
 pub run-at : (p : List ℕ) {q : List ℕ} (n k v : ℕ) → n % 8 ≡ 0 → q ≡ set_run p (8 * (n / 8)) k v → q ≡ set_run p n k v
 run-at p n k v z e = let f : 8 * (n / 8) ≡ n = omega arith in e ∙ ap (λ (a : ℕ). set_run p a k v) f
+
+-- part of a page, lent and filled with a byte of eight bits that are alike
+pub bytes_put : (p : List ℕ) {d : List ℕ} → ((i : ℕ) → get_or p i 0 < 256) → (j m : ℕ) (v : Bool) {x : ℕ} → x ≡ 255 * bit v → d ≡ replicate (length (take (j + m - j) (drop j p))) x → j + m ≤ length p
+    → take j p ++ (d ++ drop (j + m - j) (drop j p)) ≡ set_run p (8 * j) (8 * m) (bit v)
+bytes_put p small j m v e f h =
+    let n : j + m - j ≡ m = omega arith in
+    let l : length (take (j + m - j) (drop j p)) ≡ m = rw n (length-take-le m (drop j p) (omega (arith, length-drop j p))) in
+    rw (f, l, e) (part-back p (replicate m (255 * bit v)) j (j + m) (omega arith) h (length-replicate m (255 * bit v) ∙ omega arith)) ∙ bytes_same p small j m (bit v) (bit-two v) h

@@ -8,7 +8,10 @@ use native.Mathlib.Numerals.{add-one}
 use native.Mathlib.Omega.{arith}
 use borrow.Author.Tests.{not-true, not-false}
 use lib.ListN.{length, take, drop}
-use Rattle.words.specs.Lists.{every, is_zero, part, splice, set_part}
+use lib.Seq.{drop-drop}
+use Rattle.std.specs.List.{list_all, zip, range_with_len}
+use Rattle.std.specs.Simd.{first_chunks}
+use Rattle.words.specs.Lists.{part, splice, set_part}
 use Rattle.words.specs.Bytes.{word_at}
 use Rattle.words.proofs.PartLaws.{part-part, set_part-length}
 use Rattle.words.proofs.InnerLaws.{splice-part}
@@ -16,13 +19,12 @@ use Rattle.sectors.specs.Sectors.{sec, set_sec}
 use Rattle.counts.specs.declared.Geo.{Geo}
 use Rattle.counts.specs.declared.Stamp.{Stamp}
 use Rattle.counts.specs.declared.Standing.{Standing}
-use Rattle.counts.specs.Geometry.{g_p}
-use Rattle.counts.specs.Stamps.{stamp_of, alive, showing, stamp_ok, dead_below, standing}
+use Rattle.counts.specs.Stamps.{standing}
 use Rattle.entries.specs.declared.Run.{Run}
 use Rattle.apages.specs.declared.Index.{Index}
 use Rattle.apages.specs.Bits.{set_run}
 use Rattle.apages.proofs.RunLaws.{set_run-length}
-use Rattle.apages.specs.Index.{index_of, group_bytes, group_of, index_in, pair_ok, group_ok, every_group, index_ok, shown_page, changed_index, page_before, changed_run, change_run, change_bits}
+use Rattle.apages.specs.Index.{index_of, group_bytes, group_of, index_in, pair_ok, every_group, changed_index, page_before, changed_run, change_run, change_bits}
 use Rattle.apages.proofs.IndexLaws.{group-length}
 use Rattle.apages.specs.Inner.{IsPage, group_at}
 use Rattle.apages.proofs.PageLaws.{pair-pages, changed-pages, set_sec-twice}
@@ -45,21 +47,6 @@ pub group-part : (ix : List ℕ) (p : ℕ) → take (16 * p + 16 - 16 * p) (drop
 unfolding group_of part
 group-part ix p = let e : 16 * p + 16 - 16 * p ≡ 16 = omega arith in rw e
 
--- ---- what a group shows, and whether it passes
-
-module _ (g : Geo) (tab x : List ℕ) {i : Index} (e : i ≡ index_of x) where
-  pub group-tested : (bound p : ℕ) {s d r : Bool} → s ≡ stamp_ok g i.stamp → d ≡ dead_below bound tab i.stamp → r ≡ pair_ok g p i.a.0 i.b.0 → (s && d && r) ≡ group_ok g bound tab p x
-  unfolding index_of group_ok
-  group-tested bound p es ed er = rw (es, ed, er, e)
-
-  pub page-new : {t : Bool} → t ≡ alive tab i.stamp → t ≡ true → i.a.0 ≡ shown_page tab x
-  unfolding index_of shown_page showing
-  page-new et h = let q : alive tab (stamp_of x) ≡ true = rw e at (sym et ∙ h) in rw (q, e)
-
-  pub page-old : {t : Bool} → t ≡ alive tab i.stamp → t ≡ false → i.b.0 ≡ shown_page tab x
-  unfolding index_of shown_page showing
-  page-old et h = let q : alive tab (stamp_of x) ≡ false = rw e at (sym et ∙ h) in rw (q, e)
-
 -- ---- a loop over the groups: the answer for those that are left
 
 module _ (f : ℕ → List ℕ → Bool) (ix : List ℕ) (n : ℕ) where
@@ -81,10 +68,19 @@ module _ (f : ℕ → List ℕ → Bool) (ix : List ℕ) (n : ℕ) where
   unfolding every_group
   groups-end p h i = let e : n - p ≡ 0 = omega arith in sym (rw e at i)
 
--- all groups, and the zero words behind them
-pub index-tested : (g : Geo) (bound : ℕ) (tab ix : List ℕ) {a z : Bool} → a ≡ every_group (group_ok g bound tab) ix 0 (g_p g) → z ≡ every is_zero (drop (16 * g_p g) ix) → (a && z) ≡ index_ok g bound tab ix
-unfolding index_ok
-index-tested g bound tab ix ea ez = rw (ea, ez)
+-- ---- a walk over the groups, each with its number
+
+groups-zip : (f : ℕ → List ℕ → Bool) (ix : List ℕ) (n p k : ℕ) → n ≤ k → list_all (λ w. f w.0 w.1) (zip (range_with_len p n) (first_chunks 16 k (drop (16 * p) ix))) ≡ every_group f ix p n
+unfolding every_group group_of part
+groups-zip f ix zero p k h = refl
+groups-zip f ix (suc n) p zero h = absurd (omega arith)
+groups-zip f ix (suc n) p (suc k) h =
+    let e : 16 * p + 16 ≡ 16 * (p + 1) = omega arith in
+    ap (λ (b : Bool). f p (take 16 (drop (16 * p) ix)) && b)
+    (rw (drop-drop 16 (16 * p) ix, e) (groups-zip f ix n (p + 1) k (omega arith) ∙ ap (λ (i : ℕ). every_group f ix i n) (add-one p)))
+
+pub groups-walked : (f : ℕ → List ℕ → Bool) (ix : List ℕ) (n k : ℕ) → n ≤ k → list_all (λ w. f w.0 w.1) (zip (range_with_len 0 n) (first_chunks 16 k ix)) ≡ every_group f ix 0 n
+groups-walked f ix n k h = groups-zip f ix n 0 k h
 
 -- ---- changing a run of bits
 

@@ -11,8 +11,7 @@ use Rattle.words.specs.Bytes.{word_at}
 use Rattle.words.proofs.WordLaws.{word_at-get_or}
 use Rattle.apages.specs.Bits.{digit, bit_at}
 use Rattle.apages.proofs.BitLaws.{bit-lt}
-use Rattle.apages.specs.Ones.{word64_at, ones_of, set_bits}
-use Rattle.apages.proofs.OnesLaws.{ones-more}
+use Rattle.apages.specs.Ones.{word64_at, set_bits}
 use Rattle.apages.specs.Free.{free_in, waiting_in}
 use Rattle.apages.proofs.FreeLaws.{free_at, waits_at, free-total, waiting-total}
 use Rattle.apages.specs.Inner.{either_of, either}
@@ -59,7 +58,7 @@ either-digit x y b = ap (λ (z : ℕ). z % 2) (or_shr x y b) ∙ or_mod (x / 2 ^
 -- ---- two maps of bytes, word by word
 
 module _ (p q : List ℕ) (alike : length p ≡ length q) (ps : (j : ℕ) → get_or p j 0 < 256) (qs : (j : ℕ) → get_or q j 0 < 256) where
-  either-bytes : (j : ℕ) → get_or (either p q) j 0 < 256
+  pub either-bytes : (j : ℕ) → get_or (either p q) j 0 < 256
   either-bytes j = rw (either-at p q j alike) (either_lt 8 (get_or p j 0) (get_or q j 0) (ps j) (qs j))
 
   -- four bytes
@@ -93,17 +92,12 @@ module _ (p q : List ℕ) (alike : length p ≡ length q) (ps : (j : ℕ) → ge
   half_lt r h at = omega (arith, word_at-get_or r at, h at, h (at + 1), h (at + 2), h (at + 3))
 
   -- eight bytes
-  either-word : (at : ℕ) → word64_at (either p q) at ≡ either_of (word64_at p at) (word64_at q at)
+  pub either-word : (at : ℕ) → word64_at (either p q) at ≡ either_of (word64_at p at) (word64_at q at)
   unfolding word64_at
   either-word at =
       let e : word_at p at + 4294967296 * word_at p (at + 4) ≡ word_at p (at + 4) * 2 ^ 32 + word_at p at = omega arith in
       let f : word_at q at + 4294967296 * word_at q (at + 4) ≡ word_at q (at + 4) * 2 ^ 32 + word_at q at = omega arith in
       rw (e, f) (omega (arith, half at, half (at + 4), either-block 32 (word_at p (at + 4)) (word_at q (at + 4)) (word_at p at) (word_at q at) (half_lt p ps at) (half_lt q qs at)))
-
-  -- the loop's turn: the next eight bytes
-  pub either-more : (at s : ℕ) {x y r : ℕ} → x ≡ word64_at p at → y ≡ word64_at q at → r ≡ ones_of (bit_or x y) → s ≡ total (bit_at (either p q)) (8 * at)
-      → s + r ≡ total (bit_at (either p q)) (8 * (at + 8))
-  either-more at s ex ey er h = ones-more (either p q) either-bytes at s h (er ∙ (unfold either_of in rw (ex, ey) (ap ones_of (sym (either-word at)))))
 
 -- ---- the figures by the ones
 

@@ -22,3 +22,4 @@ pub mod FreeLaws
 pub mod Either
 pub mod AlikeLaws
 pub mod Joined
+pub mod Words64

@@ -1,4 +1,5 @@
 -- The first place from which k are clear is the lowest run free in both views, at or after a sector; put's run with a goal. Assumes nothing.
+use Rattle.std.specs.Prelude.{Option, Some, None}
 use mathlib.Core.Path.{◌≡◌, refl, sym, ap, ◌∙◌, subst}
 use mathlib.Core.Bool.{Bool, true, false, cond, ◌&&◌}
 use mathlib.Core.List.{List, [], ◌∷◌}
@@ -9,8 +10,6 @@ use borrow.Author.Tests.{eqb-true, eq-eqb, leb-true, le-leb}
 use lib.Dec.{eqb}
 use lib.ListN.{length, take, drop, get_or, length-drop, drop_of_length-le}
 use lib.Seq.{get_or-drop, get_or-take, take_all, length-take-le}
-use Rattle.words.specs.declared.Found.{Found}
-use Rattle.words.specs.declared.Found.TheVariants.{At, Nowhere}
 use Rattle.words.specs.Lists.{or_else}
 use Rattle.words.proofs.BoolLaws.{both, join}
 use Rattle.words.proofs.FirstLaws.{at_one, not_at}
@@ -57,13 +56,13 @@ all-clear (suc k) [] h z = absurd (omega arith)
 all-clear (suc k) (x ∷ xs) h z = rw (eq-eqb x 0 (z 0 (omega arith)), all-clear k xs (omega arith) (λ j b. z (suc j) (omega arith)))
 
 -- one place more before a list that was searched
-more-lowest : (f : ℕ → ℕ) (k i hi : ℕ) (r : Found) → (i + k ≤ hi → GoodIn f k i → ⊥) → LowestOf (GoodIn f k) k (suc i) hi r → LowestOf (GoodIn f k) k i hi r
-more-lowest f k i hi (At s) bad low = (omega arith, low.1, low.2, λ t a b good. go t a b good (ℕ_discrete t i))
+more-lowest : (f : ℕ → ℕ) (k i hi : ℕ) (r : Option ℕ) → (i + k ≤ hi → GoodIn f k i → ⊥) → LowestOf (GoodIn f k) k (suc i) hi r → LowestOf (GoodIn f k) k i hi r
+more-lowest f k i hi (Some s) bad low = (omega arith, low.1, low.2, λ t a b good. go t a b good (ℕ_discrete t i))
   where
     go : (t : ℕ) → i ≤ t → t < s → GoodIn f k t → Dec (t ≡ i) → ⊥
     go t a b good (yes e) = bad (omega arith) (omega (arith, good.0), λ n x y. good.1 n (omega arith) (omega arith))
     go t a b good (no e) = low.3 t (omega arith) b good
-more-lowest f k i hi Nowhere bad low = λ t a b good. go t a b good (ℕ_discrete t i)
+more-lowest f k i hi None bad low = λ t a b good. go t a b good (ℕ_discrete t i)
   where
     go : (t : ℕ) → i ≤ t → t + k ≤ hi → GoodIn f k t → Dec (t ≡ i) → ⊥
     go t a b good (yes e) = bad (omega arith) (omega (arith, good.0), λ n x y. good.1 n (omega arith) (omega arith))
@@ -78,7 +77,7 @@ find-lowest f k i (x ∷ xs) h e =
     (find-lowest f k (suc i) xs h (λ j b. ap f (omega arith) ∙ e (suc j) (omega arith)))
   where
     go : (c : Bool) → (in_page i k && all_clear k (x ∷ xs)) ≡ c → LowestOf (GoodIn f k) k (suc i) (suc i + length xs) (find_run k (suc i) xs)
-        → LowestOf (GoodIn f k) k i (i + length (x ∷ xs)) (cond c (At i) (find_run k (suc i) xs))
+        → LowestOf (GoodIn f k) k i (i + length (x ∷ xs)) (cond c (Some i) (find_run k (suc i) xs))
     go true c low =
         let (z, y) = both (in_page i k) (all_clear k (x ∷ xs)) c in
         let w = clear-all k (x ∷ xs) y in
@@ -124,9 +123,9 @@ module _ (k : ℕ) (p q : List ℕ) (some : 0 < k) (alike : length p ≡ length 
           subst (λ (n : ℕ). LowestOf (GoodIn (busy_at p q) k) k lo n (find_run k lo (drop lo part))) n (find-lowest (busy_at p q) k lo (drop lo part) some part_at)
 
   -- what is found ends below it
-  pub within-found : (lo hi a : ℕ) → hi ≤ 8 * length p → run_within k lo hi p q ≡ At a → a + k ≤ hi
+  pub within-found : (lo hi a : ℕ) → hi ≤ 8 * length p → run_within k lo hi p q ≡ Some a → a + k ≤ hi
   within-found lo hi a l e =
-      let low : LowestOf (GoodIn (busy_at p q) k) k lo hi (At a) = subst (λ (r : Found). LowestOf (GoodIn (busy_at p q) k) k lo hi r) e (within-lowest lo hi l) in
+      let low : LowestOf (GoodIn (busy_at p q) k) k lo hi (Some a) = subst (λ (r : Option ℕ). LowestOf (GoodIn (busy_at p q) k) k lo hi r) e (within-lowest lo hi l) in
       low.1
 
   pub within_all : (lo hi : ℕ) → 8 * length p ≤ hi → run_within k lo hi p q ≡ run_after k lo p q
@@ -135,10 +134,10 @@ module _ (k : ℕ) (p q : List ℕ) (some : 0 < k) (alike : length p ≡ length 
 
   run-is-lowest : (lo : ℕ) → LowestOf (GoodIn (busy_at p q) k) k lo (8 * length p) (run_after k lo p q)
   run-is-lowest lo =
-      subst (λ (r : Found). LowestOf (GoodIn (busy_at p q) k) k lo (8 * length p) r) (within_all lo (8 * length p) (omega arith)) (within-lowest lo (8 * length p) (omega arith))
+      subst (λ (r : Option ℕ). LowestOf (GoodIn (busy_at p q) k) k lo (8 * length p) r) (within_all lo (8 * length p) (omega arith)) (within-lowest lo (8 * length p) (omega arith))
 
   -- what a pass over one page, from sector lo on and below sector hi, found that is the lowest is what the definition finds
-  pub lowest-within : length p ≤ 512 → (lo hi : ℕ) (r : Found) → hi ≤ 8 * length p → Lowest (busy_at p q) k lo hi r → r ≡ run_within k lo hi p q
+  pub lowest-within : length p ≤ 512 → (lo hi : ℕ) (r : Option ℕ) → hi ≤ 8 * length p → Lowest (busy_at p q) k lo hi r → r ≡ run_within k lo hi p q
   lowest-within one lo hi r l low =
       lowest-one (GoodIn (busy_at p q) k) k lo hi r (run_within k lo hi p q) (page-lowest (busy_at p q) k lo hi r (omega arith) low) (within-lowest lo hi l)
 
@@ -151,16 +150,16 @@ module _ (k : ℕ) (p q : List ℕ) (some : 0 < k) (alike : length p ≡ length 
   room-good t r = (r.1, λ n x y. omega (arith, (r.2 n x y).0, (r.2 n x y).1))
 
   -- what is found at or after a sector has room, and nothing between has
-  pub after-found : (lo a : ℕ) → run_after k lo p q ≡ At a → (lo ≤ a) × Room a × ((t : ℕ) → lo ≤ t → t < a → Room t → ⊥)
+  pub after-found : (lo a : ℕ) → run_after k lo p q ≡ Some a → (lo ≤ a) × Room a × ((t : ℕ) → lo ≤ t → t < a → Room t → ⊥)
   unfolding busy_at
   after-found lo a e =
-      let low : LowestOf (GoodIn (busy_at p q) k) k lo (8 * length p) (At a) = subst (λ (r : Found). LowestOf (GoodIn (busy_at p q) k) k lo (8 * length p) r) e (run-is-lowest lo) in
+      let low : LowestOf (GoodIn (busy_at p q) k) k lo (8 * length p) (Some a) = subst (λ (r : Option ℕ). LowestOf (GoodIn (busy_at p q) k) k lo (8 * length p) r) e (run-is-lowest lo) in
       (low.0, (low.1, low.2.0, λ n x y. (omega (arith, low.2.1 n x y), omega (arith, low.2.1 n x y))), λ t l b r. low.3 t l b (room-good t r))
 
   -- where none is found there is none
-  pub after-nowhere : (lo : ℕ) → run_after k lo p q ≡ Nowhere → (t : ℕ) → lo ≤ t → Room t → ⊥
+  pub after-nowhere : (lo : ℕ) → run_after k lo p q ≡ None → (t : ℕ) → lo ≤ t → Room t → ⊥
   after-nowhere lo e t l r =
-      let low : LowestOf (GoodIn (busy_at p q) k) k lo (8 * length p) Nowhere = subst (λ (r : Found). LowestOf (GoodIn (busy_at p q) k) k lo (8 * length p) r) e (run-is-lowest lo) in
+      let low : LowestOf (GoodIn (busy_at p q) k) k lo (8 * length p) None = subst (λ (r : Option ℕ). LowestOf (GoodIn (busy_at p q) k) k lo (8 * length p) r) e (run-is-lowest lo) in
       low t l r.0 (room-good t r)
 
   -- ---- with a goal
@@ -179,36 +178,36 @@ module _ (k : ℕ) (p q : List ℕ) (some : 0 < k) (alike : length p ≡ length 
       go (yes x) = absurd (w t l x r)
       go (no x) = omega arith
 
-  pub goal-found : (goal a : ℕ) → goal_run k goal p q ≡ At a → GoalRun goal a
+  pub goal-found : (goal a : ℕ) → goal_run k goal p q ≡ Some a → GoalRun goal a
   unfolding goal_run lowest_run
   goal-found goal a e = go (run_after k goal p q) refl e
     where
-      go : (o : Found) → run_after k goal p q ≡ o → or_else o (run_after k 0 p q) ≡ At a → GoalRun goal a
-      go (At b) f h =
+      go : (o : Option ℕ) → run_after k goal p q ≡ o → or_else o (run_after k 0 p q) ≡ Some a → GoalRun goal a
+      go (Some b) f h =
           let y : b ≡ a = (unfold or_else in at_one h) in
           let (lo, room, none) = after-found goal a (rw y at f) in
           record { room = room; first = λ t l r. (lo, least goal a none t l r); lowest = λ l. absurd (omega (arith, lo)) }
-      go Nowhere f h =
+      go None f h =
           let (lo, room, none) = after-found 0 a (unfold or_else in h) in
           record { room = room; first = λ t l r. absurd (after-nowhere goal f t l r); lowest = λ l t r. least 0 a none t (omega arith) r }
 
   -- where none is found there is none, whatever the goal
-  pub goal-nowhere : (goal : ℕ) → goal_run k goal p q ≡ Nowhere → (t : ℕ) → Room t → ⊥
+  pub goal-nowhere : (goal : ℕ) → goal_run k goal p q ≡ None → (t : ℕ) → Room t → ⊥
   unfolding goal_run lowest_run
   goal-nowhere goal e = go (run_after k goal p q) refl e
     where
-      go : (o : Found) → run_after k goal p q ≡ o → or_else o (run_after k 0 p q) ≡ Nowhere → (t : ℕ) → Room t → ⊥
-      go (At b) f h t r = unfold or_else in not_at h
-      go Nowhere f h t r = after-nowhere 0 (unfold or_else in h) t (omega arith) r
+      go : (o : Option ℕ) → run_after k goal p q ≡ o → or_else o (run_after k 0 p q) ≡ None → (t : ℕ) → Room t → ⊥
+      go (Some b) f h t r = unfold or_else in not_at h
+      go None f h t r = after-nowhere 0 (unfold or_else in h) t (omega arith) r
 
 -- "Goal 0 is today's rule"
 pub goal-zero : (k : ℕ) (p q : List ℕ) → goal_run k 0 p q ≡ lowest_run k p q
 unfolding goal_run lowest_run
 goal-zero k p q = go (run_after k 0 p q)
   where
-    go : (o : Found) → or_else o o ≡ o
-    go (At a) = unfold or_else in refl
-    go Nowhere = unfold or_else in refl
+    go : (o : Option ℕ) → or_else o o ≡ o
+    go (Some a) = unfold or_else in refl
+    go None = unfold or_else in refl
 
 -- put's k sectors, where it has some
 pub run-for-some : (k goal : ℕ) (p q : List ℕ) → (k ≡ 0 → ⊥) → run_for k goal p q ≡ goal_run k goal p q
@@ -216,34 +215,34 @@ unfolding run_for
 run-for-some zero goal p q n = absurd (n refl)
 run-for-some (suc k) goal p q n = refl
 
-pub run-for-none : (k goal a : ℕ) (p q : List ℕ) → run_for k goal p q ≡ At a → k ≡ 0 → a ≡ 0
+pub run-for-none : (k goal a : ℕ) (p q : List ℕ) → run_for k goal p q ≡ Some a → k ≡ 0 → a ≡ 0
 unfolding run_for
 run-for-none zero goal a p q h z = cc
 run-for-none (suc k) goal a p q h z = absurd (omega arith)
 
-pub run-for : (k goal a : ℕ) (p q : List ℕ) (some : 0 < k) (alike : length p ≡ length q) → run_for k goal p q ≡ At a → GoalRun k p q some alike goal a
+pub run-for : (k goal a : ℕ) (p q : List ℕ) (some : 0 < k) (alike : length p ≡ length q) → run_for k goal p q ≡ Some a → GoalRun k p q some alike goal a
 run-for k goal a p q some alike h = goal-found k p q some alike goal a (sym (run-for-some k goal p q (λ z. omega arith)) ∙ h)
 
 -- its sectors, free in both
-pub run-clear : (k goal a : ℕ) (p q : List ℕ) → length p ≡ length q → run_for k goal p q ≡ At a → (i : ℕ) → a ≤ i → i < a + k
+pub run-clear : (k goal a : ℕ) (p q : List ℕ) → length p ≡ length q → run_for k goal p q ≡ Some a → (i : ℕ) → a ≤ i → i < a + k
     → (bit_at p i ≡ 0) × (bit_at q i ≡ 0) × (i < 8 * length p)
 run-clear k goal a p q l h i lo hi =
     let r = (run-for k goal a p q (omega arith) l h).room in
     let w = r.2 i lo hi in
     (w.0, w.1, omega (arith, r.0))
 
-pub run-page : (k goal a : ℕ) (p q : List ℕ) → length p ≡ length q → run_for k goal p q ≡ At a → a % 4096 + k ≤ 4096
+pub run-page : (k goal a : ℕ) (p q : List ℕ) → length p ≡ length q → run_for k goal p q ≡ Some a → a % 4096 + k ≤ 4096
 run-page zero goal a p q l h = omega arith
 run-page (suc k) goal a p q l h = (run-for (suc k) goal a p q (omega arith) l h).room.1
 
 -- "no run crosses out of one": more sectors than a page has are found nowhere
-pub run-large : (k goal : ℕ) (p q : List ℕ) → length p ≡ length q → 4096 < k → goal_run k goal p q ≡ Nowhere
+pub run-large : (k goal : ℕ) (p q : List ℕ) → length p ≡ length q → 4096 < k → goal_run k goal p q ≡ None
 run-large k goal p q l h = go (goal_run k goal p q) refl
   where
-    go : (o : Found) → goal_run k goal p q ≡ o → goal_run k goal p q ≡ Nowhere
-    go (At a) e = absurd (omega (arith, (goal-found k p q (omega arith) l goal a e).room.1))
-    go Nowhere e = e
+    go : (o : Option ℕ) → goal_run k goal p q ≡ o → goal_run k goal p q ≡ None
+    go (Some a) e = absurd (omega (arith, (goal-found k p q (omega arith) l goal a e).room.1))
+    go None e = e
 
-pub run_fits : (k goal a S : ℕ) (p q : List ℕ) → run_for k goal p q ≡ At a → ((i : ℕ) → a ≤ i → i < a + k → i < S) → a + k ≤ S
+pub run_fits : (k goal a S : ℕ) (p q : List ℕ) → run_for k goal p q ≡ Some a → ((i : ℕ) → a ≤ i → i < a + k → i < S) → a + k ≤ S
 run_fits zero goal a S p q h f = omega (arith, run-for-none zero goal a p q h refl)
 run_fits (suc k) goal a S p q h f = omega (arith, f (a + k) (omega arith) (omega arith))

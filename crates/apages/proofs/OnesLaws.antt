@@ -1,6 +1,6 @@
 -- Laws of the ones of a map: a word's are those of its bytes, ones and clear bits make the whole, and a run of bits that is set. Assumes nothing.
 use mathlib.Core.Path.{◌≡◌, refl, sym, ap, ◌∙◌}
-use mathlib.Core.Bool.{true, false}
+use mathlib.Core.Bool.{Bool, true, false}
 use mathlib.Core.List.{List}
 use Prim.Native.Nat.{ℕ, zero, suc, ◌+◌, ◌-◌, ◌*◌, ◌/◌, ◌%◌, ◌^◌, ◌≤◌, ◌<◌}
 use native.Mathlib.Decide.{ℕ_discrete}
@@ -71,7 +71,7 @@ module _ (m : List ℕ) (bytes : (j : ℕ) → get_or m j 0 < 256) where
   half_lt : (at : ℕ) → word_at m at < 4294967296
   half_lt at = omega (arith, word_at-get_or m at, bytes at, bytes (at + 1), bytes (at + 2), bytes (at + 3))
 
-  word_lt : (at : ℕ) → word64_at m at < 2 ^ 64
+  pub word_lt : (at : ℕ) → word64_at m at < 2 ^ 64
   unfolding word64_at
   word_lt at = omega (arith, half_lt at, half_lt (at + 4))
 
@@ -149,19 +149,18 @@ all-skip m (suc r) a (suc k) l h =
     let f : suc k - suc r ≡ k - r = omega arith in
     rw (e, f, x) (all-skip m r (suc a) k (omega arith) y)
 
-pub all_start : (m : List ℕ) (a k : ℕ) → all_set m a k ≡ all_set m (a + 0) (k - 0)
-all_start m a k = let e : k - 0 ≡ k = omega arith in rw (add-zero, e)
+-- a loop over a run that ends before sector e: the answer for the sectors from n on
+pub all_start : (m : List ℕ) (a k : ℕ) → all_set m a k ≡ all_set m a (a + k - a)
+all_start m a k = let e : a + k - a ≡ k = omega arith in rw e
 
-pub all_go : (m : List ℕ) (a k i : ℕ) (r : ℕ) → i + r ≤ k → all_set m (a + i) r ≡ true → all_set m a k ≡ all_set m (a + i) (k - i) → all_set m a k ≡ all_set m (a + (i + r)) (k - (i + r))
-all_go m a k i r l h inv =
-    let e : a + i + r ≡ a + (i + r) = omega arith in
-    let f : k - i - r ≡ k - (i + r) = omega arith in
-    inv ∙ all-skip m r (a + i) (k - i) (omega arith) h ∙ rw (e, f)
+module _ (m : List ℕ) (n e : ℕ) {b : Bool} (inv : b ≡ all_set m n (e - n)) where
+  pub all_go : (r : ℕ) → n + r ≤ e → all_set m n r ≡ true → b ≡ all_set m (n + r) (e - (n + r))
+  all_go r l h = let f : e - n - r ≡ e - (n + r) = omega arith in inv ∙ all-skip m r n (e - n) (omega arith) h ∙ rw f
 
-pub all-stop : (m : List ℕ) (a k i : ℕ) → i < k → bit_at m (a + i) ≡ 0 → all_set m a k ≡ all_set m (a + i) (k - i) → false ≡ all_set m a k
-unfolding all_set
-all-stop m a k i l z inv = let e : k - i ≡ suc (k - suc i) = omega arith in sym (inv ∙ rw (e, z))
+  pub all-stop : n < e → bit_at m n ≡ 0 → false ≡ b
+  unfolding all_set
+  all-stop l z = let f : e - n ≡ suc (e - suc n) = omega arith in sym (inv ∙ rw (f, z))
 
-pub all_end : (m : List ℕ) (a k i : ℕ) → k ≤ i → all_set m a k ≡ all_set m (a + i) (k - i) → true ≡ all_set m a k
-unfolding all_set
-all_end m a k i l inv = let e : k - i ≡ 0 = omega arith in sym (rw e at inv)
+  pub all_end : e ≤ n → true ≡ b
+  unfolding all_set
+  all_end l = let f : e - n ≡ 0 = omega arith in sym (rw f at inv)

@@ -1,4 +1,5 @@
 -- The lowest run, page by page: the lowest in the first page that has one; at or after a goal, and below it. Assumes nothing.
+use Rattle.std.specs.Prelude.{Option, Some, None}
 use mathlib.Core.Path.{◌≡◌, refl, sym, ap, ◌∙◌}
 use mathlib.Core.Bool.{Bool, true, false, cond, ◌&&◌}
 use mathlib.Core.List.{List, [], ◌∷◌, ◌++◌}
@@ -7,8 +8,6 @@ use native.Mathlib.Omega.{arith}
 use borrow.Author.Tests.{leb-true}
 use lib.ListN.{length, drop, length-drop}
 use lib.Seq.{drop-drop, drop-append-add}
-use Rattle.words.specs.declared.Found.{Found}
-use Rattle.words.specs.declared.Found.TheVariants.{At, Nowhere}
 use Rattle.words.specs.Lists.{is_zero, or_else}
 use Rattle.words.proofs.FirstLaws.{not_at}
 use Rattle.sectors.specs.Sectors.{Cells, sec}
@@ -26,10 +25,10 @@ use Rattle.apages.specs.Inner.{PairIn, merge_from, run_from, run_within, further
 use Rattle.apages.proofs.PassLaws.{shown-before}
 use Rattle.apages.proofs.MapLaws.{Wide, bits-over}
 
-further-nowhere : (d : ℕ) (a : Found) → further d a ≡ Nowhere → a ≡ Nowhere
+further-nowhere : (d : ℕ) (a : Option ℕ) → further d a ≡ None → a ≡ None
 unfolding further
-further-nowhere d (At i) e = not_at e
-further-nowhere d Nowhere e = refl
+further-nowhere d (Some i) e = not_at e
+further-nowhere d None e = refl
 
 pub merge-over : (a b c d : List ℕ) → length a ≡ length b → merge (a ++ c) (b ++ d) ≡ merge a b ++ merge c d
 unfolding merge
@@ -55,13 +54,13 @@ find-over k p j (x ∷ l) m h = go (in_page (4096 * p + j) k) refl (find-over k 
     next = omega arith
 
     sides : (c : Bool) → find_run k (suc (4096 * p + j)) (l ++ m) ≡ or_else (find_run k (suc (4096 * p + j)) l) (find_run k (4096 * suc p) m)
-        → cond c (At (4096 * p + j)) (find_run k (suc (4096 * p + j)) (l ++ m)) ≡ or_else (cond c (At (4096 * p + j)) (find_run k (suc (4096 * p + j)) l)) (find_run k (4096 * suc p) m)
+        → cond c (Some (4096 * p + j)) (find_run k (suc (4096 * p + j)) (l ++ m)) ≡ or_else (cond c (Some (4096 * p + j)) (find_run k (suc (4096 * p + j)) l)) (find_run k (4096 * suc p) m)
     sides true ih = unfold or_else in refl
     sides false ih = ih
 
     go : (b : Bool) → in_page (4096 * p + j) k ≡ b → find_run k (4096 * p + suc j) (l ++ m) ≡ or_else (find_run k (4096 * p + suc j) l) (find_run k (4096 * suc p) m)
-        → cond (in_page (4096 * p + j) k && all_clear k (x ∷ (l ++ m))) (At (4096 * p + j)) (find_run k (suc (4096 * p + j)) (l ++ m))
-        ≡ or_else (cond (in_page (4096 * p + j) k && all_clear k (x ∷ l)) (At (4096 * p + j)) (find_run k (suc (4096 * p + j)) l)) (find_run k (4096 * suc p) m)
+        → cond (in_page (4096 * p + j) k && all_clear k (x ∷ (l ++ m))) (Some (4096 * p + j)) (find_run k (suc (4096 * p + j)) (l ++ m))
+        ≡ or_else (cond (in_page (4096 * p + j) k && all_clear k (x ∷ l)) (Some (4096 * p + j)) (find_run k (suc (4096 * p + j)) l)) (find_run k (4096 * suc p) m)
     go true e ih =
         let z : (4096 * p + j) % 4096 + k ≤ 4096 = leb-true _ _ e in
         rw (e, clear-front k (x ∷ l) m (omega arith)) (sides (all_clear k (x ∷ l)) (rw next at ih))
@@ -76,29 +75,29 @@ find-further k p j (x ∷ l) h =
     let n : suc (4096 * p + j) ≡ 4096 * p + suc j = omega arith in
     rw (e, n, find-further k p (suc j) l (omega arith)) (sides (in_page j k && all_clear k (x ∷ l)))
   where
-    sides : (c : Bool) → cond c (At (4096 * p + j)) (further (4096 * p) (find_run k (suc j) l)) ≡ further (4096 * p) (cond c (At j) (find_run k (suc j) l))
+    sides : (c : Bool) → cond c (Some (4096 * p + j)) (further (4096 * p) (find_run k (suc j) l)) ≡ further (4096 * p) (cond c (Some j) (find_run k (suc j) l))
     sides true = unfold further in refl
     sides false = refl
 
-or-else-over : (a b c : Found) → or_else (or_else a b) c ≡ or_else a (or_else b c)
+or-else-over : (a b c : Option ℕ) → or_else (or_else a b) c ≡ or_else a (or_else b c)
 unfolding or_else
-or-else-over (At i) b c = refl
-or-else-over Nowhere b c = refl
+or-else-over (Some i) b c = refl
+or-else-over None b c = refl
 
-or-nowhere : (a : Found) → or_else a Nowhere ≡ a
+or-nowhere : (a : Option ℕ) → or_else a None ≡ a
 unfolding or_else
-or-nowhere (At i) = refl
-or-nowhere Nowhere = refl
+or-nowhere (Some i) = refl
+or-nowhere None = refl
 
-or-first : (a b : Found) → or_else a b ≡ Nowhere → a ≡ Nowhere
+or-first : (a b : Option ℕ) → or_else a b ≡ None → a ≡ None
 unfolding or_else
-or-first (At i) b e = not_at e
-or-first Nowhere b e = refl
+or-first (Some i) b e = not_at e
+or-first None b e = refl
 
-or-second : (a b : Found) → or_else a b ≡ Nowhere → b ≡ Nowhere
+or-second : (a b : Option ℕ) → or_else a b ≡ None → b ≡ None
 unfolding or_else
-or-second (At i) b e = not_at e
-or-second Nowhere b e = e
+or-second (Some i) b e = not_at e
+or-second None b e = e
 
 drop-left : (j : ℕ) (l m : List ℕ) → j ≤ length l → drop j (l ++ m) ≡ drop j l ++ m
 drop-left zero l m h = refl
@@ -145,13 +144,13 @@ module _ (g : Geo) (tp tc : List ℕ) (k : Cells) (c : ℕ) (wp : Wide g tp k) (
       ap (λ (x : List ℕ). find_run c (4096 * p + j) (drop j x)) (merge-turn p n l)
       ∙ ap (λ (x : List ℕ). find_run c (4096 * p + j) x) (drop-left j (here p) rest (omega arith))
       ∙ find-over c p j (drop j (here p)) rest left
-      ∙ ap (λ (o : Found). or_else o (find_run c (4096 * suc p) rest)) (find-further c p j (drop j (here p)) (omega arith))
+      ∙ ap (λ (o : Option ℕ). or_else o (find_run c (4096 * suc p) rest)) (find-further c p j (drop j (here p)) (omega arith))
 
   pub run-start : lowest_run c (page_in g tp k) (page_in g tc k) ≡ run_from g tp tc k c 0 (g_p g)
   unfolding lowest_run run_after run_from merge_from page_in
   run-start = refl
 
-  pub run_end : (p : ℕ) → run_from g tp tc k c p 0 ≡ Nowhere
+  pub run_end : (p : ℕ) → run_from g tp tc k c p 0 ≡ None
   unfolding run_from merge_from map_from bits_of merge find_run
   run_end p = refl
 
@@ -189,7 +188,7 @@ module _ (g : Geo) (tp tc : List ℕ) (k : Cells) (c : ℕ) (wp : Wide g tp k) (
       as-merged i = unfold run_after merge_from page_in in refl
 
   -- where no run starts at or after a goal, the lowest lies in a page before the goal's, or in its page where a run from below the goal can reach
-  pub below-goal : (goal : ℕ) → goal < 4096 * g_p g → 0 < c → run_after c goal (page_in g tp k) (page_in g tc k) ≡ Nowhere
+  pub below-goal : (goal : ℕ) → goal < 4096 * g_p g → 0 < c → run_after c goal (page_in g tp k) (page_in g tc k) ≡ None
       → lowest_run c (page_in g tp k) (page_in g tc k)
       ≡ or_else (run_from g tp tc k c 0 (goal / 4096))
       (further (4096 * (goal / 4096)) (run_within c 0 (min (goal % 4096 + c - 1) 4096) (page_at g tp k (goal / 4096)) (page_at g tc k (goal / 4096))))
@@ -200,9 +199,9 @@ module _ (g : Geo) (tp tc : List ℕ) (k : Cells) (c : ℕ) (wp : Wide g tp k) (
       let alike : length pp ≡ length pc = wp m (omega arith) ∙ sym (wc m (omega arith)) in
       let last : run_from g tp tc k c (0 + m) (suc n) ≡ further (4096 * m) (run_within c 0 (min (goal % 4096 + c - 1) 4096) pp pc) =
       ap (λ (q : ℕ). run_from g tp tc k c q (suc n)) y ∙ run-turn m n (omega arith)
-      ∙ ap (λ (o : Found). or_else (further (4096 * m) (run_after c 0 pp pc)) o) (or-second _ _ later) ∙ or-nowhere _
-      ∙ ap (λ (o : Found). further (4096 * m) o) (page-reach c (goal % 4096) pp pc some alike w (further-nowhere _ _ (or-first _ _ later))) in
-      run-start ∙ ap (λ (i : ℕ). run_from g tp tc k c 0 i) (sym e) ∙ run-parts m 0 (suc n) (omega arith) ∙ ap (λ (o : Found). or_else (run_from g tp tc k c 0 m) o) last
+      ∙ ap (λ (o : Option ℕ). or_else (further (4096 * m) (run_after c 0 pp pc)) o) (or-second _ _ later) ∙ or-nowhere _
+      ∙ ap (λ (o : Option ℕ). further (4096 * m) o) (page-reach c (goal % 4096) pp pc some alike w (further-nowhere _ _ (or-first _ _ later))) in
+      run-start ∙ ap (λ (i : ℕ). run_from g tp tc k c 0 i) (sym e) ∙ run-parts m 0 (suc n) (omega arith) ∙ ap (λ (o : Option ℕ). or_else (run_from g tp tc k c 0 m) o) last
     where
       m : ℕ
       m = goal / 4096
@@ -216,7 +215,7 @@ module _ (g : Geo) (tp tc : List ℕ) (k : Cells) (c : ℕ) (wp : Wide g tp k) (
       pc : List ℕ
       pc = page_at g tc k m
 
-      later : or_else (further (4096 * m) (run_after c (goal % 4096) pp pc)) (run_from g tp tc k c (suc m) n) ≡ Nowhere
+      later : or_else (further (4096 * m) (run_after c (goal % 4096) pp pc)) (run_from g tp tc k c (suc m) n) ≡ None
       later = sym (after_turn goal n (omega arith)) ∙ none
 
 -- the pages of an image that has its pairs lie in it

@@ -1,4 +1,5 @@
 -- Where no run starts at or after a sector, the lowest run lies in the sectors that a run from before it can reach. Assumes nothing.
+use Rattle.std.specs.Prelude.{None}
 use mathlib.Core.Path.{◌≡◌, refl, sym, ap, ◌∙◌}
 use mathlib.Core.Bool.{Bool, false, ◌&&◌}
 use mathlib.Core.List.{List, [], ◌∷◌}
@@ -7,7 +8,6 @@ use native.Mathlib.Decide.{dec_lt}
 use native.Mathlib.Omega.{arith}
 use lib.ListN.{length, take, drop, length-take}
 use lib.Seq.{take_all}
-use Rattle.words.specs.declared.Found.TheVariants.{Nowhere}
 use Rattle.words.specs.Lists.{is_zero}
 use Rattle.words.proofs.EveryLaws.{and-false}
 use Rattle.counts.specs.Geometry.{in_page}
@@ -31,13 +31,13 @@ clear-short zero l h = absurd (omega arith)
 clear-short (suc k) [] h = refl
 clear-short (suc k) (x ∷ l) h = rw (clear-short k l (omega arith)) (and-false (is_zero x))
 
-find-short : (k i : ℕ) (l : List ℕ) → length l < k → find_run k i l ≡ Nowhere
+find-short : (k i : ℕ) (l : List ℕ) → length l < k → find_run k i l ≡ None
 unfolding find_run
 find-short k i [] h = refl
 find-short k i (x ∷ l) h = rw (clear-short k (x ∷ l) h, and-false (in_page i k)) (find-short k (suc i) l (omega arith))
 
 -- no run of k + 1 starts at place j of a list or later: the lowest is that of the first j + k
-pub find-reach : (k i j : ℕ) (l : List ℕ) → find_run (suc k) (i + j) (drop j l) ≡ Nowhere → find_run (suc k) i l ≡ find_run (suc k) i (take (j + k) l)
+pub find-reach : (k i j : ℕ) (l : List ℕ) → find_run (suc k) (i + j) (drop j l) ≡ None → find_run (suc k) i l ≡ find_run (suc k) i (take (j + k) l)
 unfolding find_run
 find-reach k i zero l none =
     let e : i + 0 ≡ i = omega arith in
@@ -49,7 +49,7 @@ find-reach k i (suc j) (x ∷ l) none =
     rw (e, clear-take (suc k) (suc (j + k)) (x ∷ l) (omega arith), find-reach k (suc i) j l (rw f at none))
 
 -- of a page: the end is the page's own where a run from before the sector could reach past it
-pub page-reach : (k j : ℕ) (p q : List ℕ) → 0 < k → length p ≡ length q → 8 * length p ≡ 4096 → run_after k j p q ≡ Nowhere
+pub page-reach : (k j : ℕ) (p q : List ℕ) → 0 < k → length p ≡ length q → 8 * length p ≡ 4096 → run_after k j p q ≡ None
     → run_after k 0 p q ≡ run_within k 0 (min (j + k - 1) 4096) p q
 unfolding run_after run_within
 page-reach zero j p q some alike page none = absurd (omega arith)

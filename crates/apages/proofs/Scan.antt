@@ -1,13 +1,14 @@
 -- What one pass over two pages, from a sector on, has seen of the lowest run free in both. Assumes nothing.
+use Rattle.std.specs.Prelude.{Option, Some, None}
 use mathlib.Core.Path.{◌≡◌, refl, sym, ap, ◌∙◌}
-use mathlib.Core.Logic.{◌≢◌}
+use mathlib.Core.Bool.{Bool, true, false, not}
 use Prim.Native.Nat.{ℕ, zero, suc, ◌+◌, ◌-◌, ◌%◌, ◌≤◌, ◌<◌}
 use native.Mathlib.Decide.{dec_lt}
 use native.Mathlib.Omega.{arith}
+use borrow.Author.Rules.{rules}
 use borrow.Author.Tests.{eqb-true, eq-eqb}
 use Rattle.words.specs.Lists.{is_zero}
-use Rattle.words.specs.declared.Found.{Found}
-use Rattle.words.specs.declared.Found.TheVariants.{At, Nowhere}
+use Rattle.words.proofs.BoolLaws.{falsum}
 use Rattle.apages.specs.Inner.{run_up_to}
 
 -- k neighbouring sectors from s on are free
@@ -19,27 +20,27 @@ abbrev pub GoodIn : (ℕ → ℕ) → ℕ → ℕ → Type 0
 GoodIn f k s = (s % 4096 + k ≤ 4096) × Good f k s
 
 -- r is the lowest start of lo to hi - k that q holds of
-abbrev pub LowestOf : (ℕ → Type 0) → ℕ → ℕ → ℕ → Found → Type 0
-LowestOf q k lo hi (At s) = (lo ≤ s) × (s + k ≤ hi) × q s × ((t : ℕ) → lo ≤ t → t < s → q t → ⊥)
-LowestOf q k lo hi Nowhere = (t : ℕ) → lo ≤ t → t + k ≤ hi → q t → ⊥
+abbrev pub LowestOf : (ℕ → Type 0) → ℕ → ℕ → ℕ → Option ℕ → Type 0
+LowestOf q k lo hi (Some s) = (lo ≤ s) × (s + k ≤ hi) × q s × ((t : ℕ) → lo ≤ t → t < s → q t → ⊥)
+LowestOf q k lo hi None = (t : ℕ) → lo ≤ t → t + k ≤ hi → q t → ⊥
 
 -- r is the lowest start of k free sectors of lo to hi - 1
-abbrev pub Lowest : (ℕ → ℕ) → ℕ → ℕ → ℕ → Found → Type 0
-Lowest f k lo hi (At s) = (lo ≤ s) × (s + k ≤ hi) × Good f k s × ((t : ℕ) → lo ≤ t → t < s → Good f k t → ⊥)
-Lowest f k lo hi Nowhere = (t : ℕ) → lo ≤ t → t + k ≤ hi → Good f k t → ⊥
+abbrev pub Lowest : (ℕ → ℕ) → ℕ → ℕ → ℕ → Option ℕ → Type 0
+Lowest f k lo hi (Some s) = (lo ≤ s) × (s + k ≤ hi) × Good f k s × ((t : ℕ) → lo ≤ t → t < s → Good f k t → ⊥)
+Lowest f k lo hi None = (t : ℕ) → lo ≤ t → t + k ≤ hi → Good f k t → ⊥
 
 -- in one page no run can cross out of it
-pub page-lowest : (f : ℕ → ℕ) (k lo hi : ℕ) (r : Found) → hi ≤ 4096 → Lowest f k lo hi r → LowestOf (GoodIn f k) k lo hi r
-page-lowest f k lo hi (At s) h low = (low.0, low.1, (omega (arith, low.1), low.2), λ t a b g. low.3 t a b g.1)
-page-lowest f k lo hi Nowhere h low = λ t a b g. low t a b g.1
+pub page-lowest : (f : ℕ → ℕ) (k lo hi : ℕ) (r : Option ℕ) → hi ≤ 4096 → Lowest f k lo hi r → LowestOf (GoodIn f k) k lo hi r
+page-lowest f k lo hi (Some s) h low = (low.0, low.1, (omega (arith, low.1), low.2), λ t a b g. low.3 t a b g.1)
+page-lowest f k lo hi None h low = λ t a b g. low t a b g.1
 
-pub run_up_to-le : (b have n : ℕ) → run_up_to b have n ≤ have + n
-run_up_to-le zero have n = omega arith
-run_up_to-le (suc b) have n = omega arith
+pub run_up_to-busy : (b have n : ℕ) {r : Bool} → r ≡ not (is_zero b) → r ≡ true → 0 ≡ run_up_to b have n
+run_up_to-busy zero have n e h = falsum (sym e ∙ h)
+run_up_to-busy (suc b) have n e h = refl
 
-pub run_up_to-busy : (b have n : ℕ) → b ≢ 0 → 0 ≡ run_up_to b have n
-run_up_to-busy zero have n h = absurd (h refl)
-run_up_to-busy (suc b) have n h = refl
+pub run_up_to-free : (b have n : ℕ) {r : Bool} → r ≡ not (is_zero b) → r ≡ false → have + n ≡ run_up_to b have n
+run_up_to-free zero have n e h = refl
+run_up_to-free (suc b) have n e h = let z : is_zero (suc b) ≡ false = search rules in falsum (sym h ∙ rw z at e)
 
 -- the pass began at sector lo and stands before sector `at`; the last `have` sectors are free, and no run of k starts before them
 pub record Seen (f : ℕ → ℕ) (k lo have at : ℕ) : Type 0 where
@@ -92,25 +93,25 @@ module _ {f : ℕ → ℕ} {k lo have at : ℕ} (s : Seen f k lo have at) where
           none = λ t w c. past-busy b z t w (omega arith);
         }
 
-    pub seen-found : (g hi : ℕ) → g ≡ run_up_to (f at) have m → k ≤ g → at + m ≤ hi → Lowest f k lo hi (At (at + m - g))
+    pub seen-found : (g hi : ℕ) → g ≡ run_up_to (f at) have m → k ≤ g → at + m ≤ hi → Lowest f k lo hi (Some (at + m - g))
     seen-found g hi e q l = go (f at) refl e
       where
-        go : (b : ℕ) → f at ≡ b → g ≡ run_up_to b have m → Lowest f k lo hi (At (at + m - g))
+        go : (b : ℕ) → f at ≡ b → g ≡ run_up_to b have m → Lowest f k lo hi (Some (at + m - g))
         go zero z e' =
             (omega (arith, s.room), omega (arith, s.room), (λ n a b. more-free z n (omega (arith, s.room)) (omega (arith, s.room))), λ t a b. s.none t a (omega arith))
         go (suc b) z e' = absurd (omega (arith, s.short))
 
-  pub seen_end : (hi : ℕ) → hi ≤ at → Lowest f k lo hi Nowhere
+  pub seen_end : (hi : ℕ) → hi ≤ at → Lowest f k lo hi None
   seen_end hi h t a b = s.none t a (omega (arith, s.short))
 
 -- two answers that are the lowest are one
-pub lowest-one : (q : ℕ → Type 0) (k lo hi : ℕ) (r r' : Found) → LowestOf q k lo hi r → LowestOf q k lo hi r' → r ≡ r'
-lowest-one q k lo hi (At s) (At t) a b = go (dec_lt s t) (dec_lt t s)
+pub lowest-one : (q : ℕ → Type 0) (k lo hi : ℕ) (r r' : Option ℕ) → LowestOf q k lo hi r → LowestOf q k lo hi r' → r ≡ r'
+lowest-one q k lo hi (Some s) (Some t) a b = go (dec_lt s t) (dec_lt t s)
   where
-    go : Dec (s < t) → Dec (t < s) → At s ≡ At t
+    go : Dec (s < t) → Dec (t < s) → Some s ≡ Some t
     go (yes l) d = absurd (b.3 s a.0 l a.2)
     go (no l) (yes m) = absurd (a.3 t b.0 m b.2)
-    go (no l) (no m) = ap At (omega arith)
-lowest-one q k lo hi (At s) Nowhere a b = absurd (b s a.0 a.1 a.2)
-lowest-one q k lo hi Nowhere (At t) a b = absurd (a t b.0 b.1 b.2)
-lowest-one q k lo hi Nowhere Nowhere a b = refl
+    go (no l) (no m) = ap Some (omega arith)
+lowest-one q k lo hi (Some s) None a b = absurd (b s a.0 a.1 a.2)
+lowest-one q k lo hi None (Some t) a b = absurd (a t b.0 b.1 b.2)
+lowest-one q k lo hi None None a b = refl

@@ -1,8 +1,6 @@
 -- What the contracts of inner functions cite besides the words of the papers: what such a function asks of its caller, and what it answers. Assumes nothing.
-use Rattle.std.specs.Prelude.{◌≡◌, List, [], ◌∷◌, true, ℕ, zero, suc, ◌+◌, ◌*◌, ◌%◌, ◌≤◌, ◌<◌, take, drop}
+use Rattle.std.specs.Prelude.{◌≡◌, List, [], ◌∷◌, true, ℕ, zero, suc, ◌+◌, ◌*◌, ◌%◌, ◌≤◌, ◌<◌, take, drop, Option, Some, None}
 use Rattle.std.specs.Int.Bits.{bit_or}
-use Rattle.words.specs.declared.Found.{Found}
-use Rattle.words.specs.declared.Found.TheVariants.{At, Nowhere}
 use Rattle.words.specs.Lists.{is_zero}
 use Rattle.words.specs.Bytes.{word_at}
 use Rattle.sectors.specs.Sectors.{sec, Cells}
@@ -27,13 +25,13 @@ run_up_to zero have n = have + n
 run_up_to (suc b) have n = 0
 
 -- the lowest run in one page from sector i on and below sector e
-unfoldable pub run_within : ℕ → ℕ → ℕ → List ℕ → List ℕ → Found
+unfoldable pub run_within : ℕ → ℕ → ℕ → List ℕ → List ℕ → Option ℕ
 run_within k i e p q = find_run k i (drop i (take e (merge (bits_of p) (bits_of q))))
 
 -- what was found, d further
-unfoldable pub further : ℕ → Found → Found
-further d (At i) = At (d + i)
-further d Nowhere = Nowhere
+unfoldable pub further : ℕ → Option ℕ → Option ℕ
+further d (Some i) = Some (d + i)
+further d None = None
 
 -- A and B of every group are its pair
 abbrev pub PairIn : Geo → List ℕ → Type 0
@@ -62,7 +60,7 @@ unfoldable pub merge_from : Geo → List ℕ → List ℕ → Cells → ℕ → 
 merge_from g tp tc k p n = merge (bits_of (map_from g tp k p n)) (bits_of (map_from g tc k p n))
 
 -- the search over n pages from pair p on, of two views' maps
-unfoldable pub run_from : Geo → List ℕ → List ℕ → Cells → ℕ → ℕ → ℕ → Found
+unfoldable pub run_from : Geo → List ℕ → List ℕ → Cells → ℕ → ℕ → ℕ → Option ℕ
 run_from g tp tc k c p n = find_run c (4096 * p) (merge_from g tp tc k p n)
 
 -- the bits that either number has

@@ -24,17 +24,15 @@ pub fn group_at(g: Geo, p: u32) -> usize
 }
 
 // "groups of cc, txc, A, B": the group that 16 bytes hold.
+#[tactic(auto, unfolding(apages::specs::Index::index_of))]
 pub fn index_of(x: &[u8]) -> Index
     requires { 16 ≤ length x.now }
     ensures { result ≡ index_of x.now }
 {
-    let stamp = counts_stamps::stamp_of(x);
-    let a = words::word_at(x, 8);
-    let b = words::word_at(x, 12);
     Index {
-        stamp,
-        a: Sector(a),
-        b: Sector(b),
+        stamp: counts_stamps::stamp_of(x),
+        a: Sector(words::word_at(x, 8)),
+        b: Sector(words::word_at(x, 12)),
     }
 }
 
@@ -43,46 +41,46 @@ pub fn put_group(s: &mut [u8], at: usize, x: Index)
     requires { at + 16 ≤ length s.old }
     ensures { s.new ≡ splice s.old at (group_bytes x) }
 {
-    let stamp = x.stamp;
-    words::put_word(s, at, stamp.cc.0);
-    words::put_word(s, at + 4, stamp.txc.0);
+    words::put_word(s, at, x.stamp.cc.0);
+    words::put_word(s, at + 4, x.stamp.txc.0);
     words::put_word(s, at + 8, x.a.0);
     words::put_word(s, at + 12, x.b.0)
 }
 
 // "Pair p is T + 2 + 2p and T + 3 + 2p": A and B are the two, in either order.
+#[tactic(auto, unfolding(apages::specs::Index::pair_ok))]
 fn pair_ok(g: Geo, p: u32, a: Sector, b: Sector) -> bool
     requires { InLimits g × (p < g_p g) }
     ensures { result ≡ pair_ok g p a.0 b.0 }
 {
-    let low = counts::pair_low(g, p);
-    let high = counts::pair_high(g, p);
-    ((a.0 == low.0) & (b.0 == high.0)) | ((a.0 == high.0) & (b.0 == low.0))
+    let (low, high) = counts::pair(g, p);
+    (a, b) == (low, high) || (a, b) == (high, low)
 }
 
 // Whether group p passes in a view, with dead stamps below a bound.
+#[tactic(auto, unfolding(apages::specs::Index::index_of, apages::specs::Index::group_ok))]
 fn group_ok(card: &[u8], g: Geo, v: View, bound: CrashCount, p: u32, x: &[u8]) -> bool
     requires { LaidOut g card.now × ((p < g_p g) × (16 ≤ length x.now)) }
     ensures { result ≡ group_ok g bound.0 (table_in g v (sec card.now)) p x.now }
 {
     let i = index_of(x);
-    let stamp = i.stamp;
-    counts_stamps::stamp_ok(g, stamp)
-        & counts_stamps::dead_below(card, g, v, bound, stamp)
-        & pair_ok(g, p, i.a, i.b)
+    counts_stamps::stamp_ok(g, i.stamp)
+        && counts_stamps::dead_below(card, g, v, bound, i.stamp)
+        && pair_ok(g, p, i.a, i.b)
 }
 
 // "The index shows apage A when alive, B when dead.": the page that a group shows.
+#[tactic(auto, unfolding(apages::specs::Index::index_of, apages::specs::Index::shown_page, counts::specs::Stamps::showing))]
 pub fn shown_page(card: &[u8], g: Geo, v: View, x: &[u8]) -> Sector
     requires { LaidOut g card.now × (16 ≤ length x.now) }
     ensures { result.0 ≡ shown_page (table_in g v (sec card.now)) x.now }
 {
     let i = index_of(x);
-    let stamp = i.stamp;
-    if counts_stamps::alive(card, g, v, stamp) {
-        return i.a;
+    if counts_stamps::alive(card, g, v, i.stamp) {
+        i.a
+    } else {
+        i.b
     }
-    i.b
 }
 
 // ---- the index sector: "the index holds P groups"
@@ -92,27 +90,17 @@ fn groups_ok(card: &[u8], g: Geo, v: View, bound: CrashCount, ix: &[u8]) -> bool
     requires { LaidOut g card.now × (length ix.now ≡ 512) }
     ensures { result ≡ every_group (group_ok g bound.0 (table_in g v (sec card.now))) ix.now 0 (g_p g) }
 {
-    let pairs = counts::pairs(g);
-    let mut p = 0;
-    while p < pairs {
-        let at = 16 * (p as usize);
-        let end = at + 16;
-        let ok = group_ok(card, g, v, bound, p, &ix[at..end]);
-        if !ok {
-            return false;
-        }
-        p += 1;
-    }
-    true
+    (0..counts::pairs(g))
+        .zip(ix.as_chunks::<16>().0)
+        .all(|(p, x)| group_ok(card, g, v, bound, p, x))
 }
 
 // Whether the index passes in a view, with dead stamps below a bound: each group, and "the rest 0".
+#[tactic(auto, unfolding(apages::specs::Index::index_ok))]
 pub fn index_ok(card: &[u8], g: Geo, v: View, bound: CrashCount, ix: &[u8]) -> bool
     requires { LaidOut g card.now × (length ix.now ≡ 512) }
     ensures { result ≡ index_ok g bound.0 (table_in g v (sec card.now)) ix.now }
 {
-    let pairs = counts::pairs(g);
-    let from = 16 * (pairs as usize);
-    let rest = words::zeros(&ix[from..512]);
-    groups_ok(card, g, v, bound, ix) & rest
+    let from = 16 * (counts::pairs(g) as usize);
+    groups_ok(card, g, v, bound, ix) && words::zeros(&ix[from..])
 }

@@ -1,28 +1,26 @@
 // The ones of a page: counted by words of 64 bits, and whether a run of bits is set.
 #![tactic(auto)]
 
-ghost use Rattle.std.specs.Prelude.{◌≡◌, true, ◌+◌, ◌*◌, ◌%◌, ◌≤◌, ◌<◌, length};
+ghost use Rattle.std.specs.Prelude.{◌≡◌, true, ◌+◌, ◌*◌, ◌/◌, ◌%◌, ◌≤◌, ◌<◌, length};
+ghost use Rattle.std.specs.Simd.{first_chunks};
 ghost use Rattle.apages.specs.Bits.{bit_at, clear_bits};
 ghost use Rattle.apages.specs.Inner.{either};
 ghost use Rattle.apages.specs.Ones.{word64_at, ones_of, set_bits, all_set};
 
 // ---- counted
 
-// Eight bytes as one word, least byte first.
-fn word64(s: &[u8], at: usize) -> u64
-    requires { at + 8 ≤ length s.now }
-    ensures { result ≡ word64_at s.now at }
+// The words of a page, of eight bytes each.
+fn words_of(p: &[u8]) -> &[[u8; 8]]
+    ensures { result.now ≡ first_chunks 8 (length p.now / 8) p.now }
 {
-    let low = words::word_at(s, at) as u64;
-    let high = words::word_at(s, at + 4) as u64;
-    low + 4294967296 * high
+    p.as_chunks().0
 }
 
-// How many bits of a word are set.
-fn ones_of(x: u64) -> u32
-    ensures { (result ≡ ones_of x) × (result ≤ 64) }
+// Eight bytes as one word, least byte first.
+fn word64(w: &[u8; 8]) -> u64
+    ensures { result ≡ word64_at w.now 0 }
 {
-    u64::count_ones(x)
+    u64::from_le_bytes(*w)
 }
 
 // "the count of ones in the bitmap's words": how many bits of a page are set.
@@ -30,13 +28,7 @@ pub fn set_bits(p: &[u8]) -> u32
     requires { (length p.now % 8 ≡ 0) × (length p.now ≤ 512) }
     ensures { result ≡ set_bits p.now }
 {
-    let mut sum: u32 = 0;
-    let mut at = 0;
-    while at < p.len() {
-        sum += ones_of(word64(p, at));
-        at += 8;
-    }
-    sum
+    words_of(p).iter().map(|w| word64(w).count_ones()).sum()
 }
 
 // How many bits are set in one of two pages, or in both.
@@ -44,13 +36,11 @@ pub fn either_set(p: &[u8], q: &[u8]) -> u32
     requires { (length p.now % 8 ≡ 0) × (length p.now ≤ 512) × (length q.now ≡ length p.now) }
     ensures { result ≡ set_bits (either p.now q.now) }
 {
-    let mut sum: u32 = 0;
-    let mut at = 0;
-    while at < p.len() {
-        sum += ones_of(word64(p, at) | word64(q, at));
-        at += 8;
-    }
-    sum
+    words_of(p)
+        .iter()
+        .zip(words_of(q))
+        .map(|(v, w)| (word64(v) | word64(w)).count_ones())
+        .sum()
 }
 
 // How many bits are clear: those that are not set.
@@ -58,8 +48,7 @@ pub fn count_clear(p: &[u8]) -> u32
     requires { (length p.now % 8 ≡ 0) × (length p.now ≤ 512) }
     ensures { result ≡ clear_bits p.now }
 {
-    let ones = set_bits(p);
-    8 * (p.len() as u32) - ones
+    8 * (p.len() as u32) - set_bits(p)
 }
 
 // ---- a run
@@ -69,15 +58,13 @@ fn next_set(p: &[u8], n: usize, end: usize) -> usize
     requires { (length p.now ≤ 512) × (n < end) × (end ≤ 8 * length p.now) }
     ensures { (all_set p.now n result ≡ true) × (n + result ≤ end) × (result ≡ 0 → bit_at p.now n ≡ 0) }
 {
-    if (n % 64 == 0) & (n + 64 <= end) {
-        if word64(p, n / 8) == 18446744073709551615 {
-            return 64;
-        }
+    if n % 64 == 0 && n + 64 <= end && word64(&words_of(p)[n / 64]) == u64::MAX {
+        64
+    } else if n % 8 == 0 && n + 8 <= end && p[n / 8] == 255 {
+        8
+    } else {
+        usize::from(apages::bit(p, n))
     }
-    if (n % 8 == 0) & (n + 8 <= end) & (p[n / 8] == 255) {
-        return 8;
-    }
-    apages::bit(p, n) as usize
 }
 
 // Whether the bits of k sectors from a on are set.
@@ -86,13 +73,14 @@ pub fn run_set(p: &[u8], a: usize, k: usize) -> bool
     ensures { result ≡ all_set p.now a k }
 {
     let end = a + k;
-    let mut i = 0;
-    while i < k {
-        let n = next_set(p, a + i, end);
-        if n == 0 {
+    let mut n = a;
+    // A step is as many sectors as were seen to be set: no `for` has steps that vary.
+    while n < end {
+        let set = next_set(p, n, end);
+        if set == 0 {
             return false;
         }
-        i += n;
+        n += set;
     }
     true
 }

@@ -27,3 +27,4 @@ pub mod OneChange
 pub mod MeansParts
 pub mod MeansBits
 pub mod MeansProved
+pub mod AnswerLaws

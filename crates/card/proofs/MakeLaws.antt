@@ -1,12 +1,12 @@
 -- Make, answer by answer. Assumes nothing.
 use mathlib.Core.Path.{◌≡◌, sym, ap, ◌∙◌}
-use mathlib.Core.Bool.{Bool, true, false, not}
+use mathlib.Core.Bool.{true, false}
 use mathlib.Core.List.{List, ◌++◌, append_assoc}
 use Prim.Native.Nat.{ℕ, suc, ◌+◌, ◌-◌, ◌*◌, ◌≤◌, ◌<◌}
 use native.Mathlib.Nat.{zero-add}
 use native.Mathlib.Numerals.{add-one}
 use native.Mathlib.Omega.{arith}
-use borrow.Author.Tests.{eq-eqb, ne_eqb, not-true, not-false}
+use borrow.Author.Tests.{eq-eqb, ne_eqb}
 use lib.Dec.{eqb}
 use lib.ListN.{length, take, drop, replicate, length-replicate, replicate-append-replicate}
 use lib.Seq.{drop-drop, take_at, drop_at}
@@ -18,28 +18,23 @@ use Rattle.counts.specs.Geometry.{g_p, geo_ok, pair_low, pair_high}
 use Rattle.apages.specs.Runs.{fresh_page}
 use Rattle.apages.specs.Index.{group_bytes}
 use Rattle.apages.proofs.IndexLaws.{group-length}
-use Rattle.card.specs.declared.Answer.{Answer}
 use Rattle.card.specs.Plan.{guard, ended, refused, done}
 use Rattle.card.specs.Make.{block_bytes, fresh_group, fresh_groups, fresh_index, fresh_pages, fresh_card, make_plan, make}
 use Rattle.card.proofs.FreshSectors.{groups-length, groups-snoc}
 
-module _ (g : Geo) (card : List ℕ) {r : Answer} {b : Bool} (e : b ≡ geo_ok g) where
-  pub make-geo : not b ≡ true → r ≡ refused 1 → (r ≡ (make g card).answer) × (card ≡ (make g card).image)
+module _ (g : Geo) (card : List ℕ) where
+  pub make-geo : false ≡ geo_ok g → (refused 1 ≡ (make g card).answer) × (card ≡ (make g card).image)
   unfolding make make_plan guard ended
-  make-geo n f = let z : geo_ok g ≡ false = sym e ∙ not-true b n in (rw z f, rw z)
+  make-geo e = (rw (← e), rw (← e))
 
-  pub make-size : not b ≡ false → (length card ≡ 512 * g.s → ⊥) → r ≡ refused 1 → (r ≡ (make g card).answer) × (card ≡ (make g card).image)
-  unfolding make make_plan guard ended
-  make-size n d f =
-      let z : geo_ok g ≡ true = sym e ∙ not-false b n in
-      let l : eqb (length card) (512 * g.s) ≡ false = ne_eqb _ _ d in (rw (z, l) f, rw (z, l))
+  module _ (e : true ≡ geo_ok g) where
+    pub make-size : (length card ≡ 512 * g.s → ⊥) → (refused 1 ≡ (make g card).answer) × (card ≡ (make g card).image)
+    unfolding make make_plan guard ended
+    make-size d = let l : eqb (length card) (512 * g.s) ≡ false = ne_eqb _ _ d in (rw (← e, l), rw (← e, l))
 
-  pub make-done : {x : List ℕ} → not b ≡ false → length card ≡ 512 * g.s → r ≡ done 0 → x ≡ fresh_card g
-      → (r ≡ (make g card).answer) × (x ≡ (make g card).image)
-  unfolding make make_plan guard ended
-  make-done n d f h =
-      let z : geo_ok g ≡ true = sym e ∙ not-false b n in
-      let l : eqb (length card) (512 * g.s) ≡ true = eq-eqb _ _ d in (rw (z, l) f, rw (z, l) h)
+    pub make-done : length card ≡ 512 * g.s → {x : List ℕ} → x ≡ fresh_card g → (done 0 ≡ (make g card).answer) × (x ≡ (make g card).image)
+    unfolding make make_plan guard ended
+    make-done d h = let l : eqb (length card) (512 * g.s) ≡ true = eq-eqb _ _ d in (rw (← e, l), rw (← e, l) h)
 
 -- block and index written over zeros, then the pairs one by one
 pub fresh_start : (g : Geo) (n : ℕ) {z b i block index : List ℕ} → n ≡ 512 * g.s → z ≡ replicate n 0 → block ≡ block_bytes 0 g → index ≡ fresh_index g

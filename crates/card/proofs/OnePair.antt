@@ -1,4 +1,5 @@
 -- "P = 1 must give today's bytes": at S up to 4,096 each definition that knows pairs is the one that document 01 had. Assumes nothing.
+use Rattle.std.specs.Prelude.{Option, Some, None}
 use mathlib.Core.Path.{◌≡◌, refl, ap, ◌∙◌}
 use mathlib.Core.Bool.{Bool, true, false, cond, ◌&&◌, ◌||◌}
 use mathlib.Core.List.{List, [], ◌∷◌, ◌++◌, append-nil}
@@ -7,8 +8,6 @@ use native.Mathlib.Omega.{arith}
 use borrow.Author.Tests.{le-leb, leb-true}
 use lib.Dec.{leb, ltb, eqb}
 use lib.ListN.{length, drop, replicate, length-drop}
-use Rattle.words.specs.declared.Found.{Found}
-use Rattle.words.specs.declared.Found.TheVariants.{At, Nowhere}
 use Rattle.words.specs.Lists.{every, is_zero, part, set_part, pad}
 use Rattle.words.specs.Bytes.{word_at, word_bytes}
 use Rattle.words.proofs.WordLaws.{word-part}
@@ -167,9 +166,9 @@ run-today g r small = run-text g r ∙ go (leb (r.start.0 + r.sectors) g.s) refl
         none false c = refl
 
 -- "the lowest run": the search as it was, over the bits of one page
-unfoldable pub today_find : ℕ → ℕ → List ℕ → Found
-today_find k i [] = Nowhere
-today_find k i (x ∷ xs) = cond (all_clear k (x ∷ xs)) (At i) (today_find k (suc i) xs)
+unfoldable pub today_find : ℕ → ℕ → List ℕ → Option ℕ
+today_find k i [] = None
+today_find k i (x ∷ xs) = cond (all_clear k (x ∷ xs)) (Some i) (today_find k (suc i) xs)
 
 clear-few : (k : ℕ) (l : List ℕ) → all_clear k l ≡ true → k ≤ length l
 unfolding all_clear
@@ -187,7 +186,7 @@ find-today k i [] h = refl
 find-today k i (x ∷ l) h = go (all_clear k (x ∷ l)) refl (find-today k (suc i) l (omega arith))
   where
     go : (b : Bool) → all_clear k (x ∷ l) ≡ b → find_run k (suc i) l ≡ today_find k (suc i) l
-        → cond (in_page i k && all_clear k (x ∷ l)) (At i) (find_run k (suc i) l) ≡ cond (all_clear k (x ∷ l)) (At i) (today_find k (suc i) l)
+        → cond (in_page i k && all_clear k (x ∷ l)) (Some i) (find_run k (suc i) l) ≡ cond (all_clear k (x ∷ l)) (Some i) (today_find k (suc i) l)
     go true e ih =
         let f : k ≤ length (x ∷ l) = clear-few k (x ∷ l) e in
         let p : in_page i k ≡ true = le-leb (i % 4096 + k) 4096 (omega arith) in rw (e, p)

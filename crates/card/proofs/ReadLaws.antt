@@ -1,14 +1,12 @@
 -- Get over one view, and the reading calls, answer by answer. Assumes nothing.
+use Rattle.std.specs.Prelude.{Option, Some, None, Ok, Err, slice_get}
 use mathlib.Core.Path.{◌≡◌, sym, ap, ◌∙◌}
-use mathlib.Core.Bool.{Bool, true, false, not}
+use mathlib.Core.Bool.{true, false}
 use mathlib.Core.List.{List}
 use Prim.Native.Nat.{ℕ, ◌≤◌, ◌<◌}
-use borrow.Author.Tests.{le-leb, lt-leb, not-true, not-false}
-use lib.Dec.{leb, ltb}
-use lib.ListN.{length, get_or}
-use Rattle.words_sums.specs.Sums.{bit}
-use Rattle.words.specs.declared.Found.{Found}
-use Rattle.words.specs.declared.Found.TheVariants.{At, Nowhere}
+use borrow.Author.Tests.{le-leb, lt-leb}
+use lib.Dec.{leb}
+use lib.ListN.{length}
 use Rattle.words.specs.Lists.{first_at, splice}
 use Rattle.words.specs.Bytes.{word_at}
 use Rattle.sectors.specs.Sectors.{sec}
@@ -23,88 +21,72 @@ use Rattle.apages.specs.Bits.{clear_bits}
 use Rattle.apages.specs.Index.{page_in}
 use Rattle.card.specs.declared.Answer.{Answer}
 use Rattle.card.specs.declared.Line.{Line}
-use Rattle.card.specs.declared.Lined.{Lined}
-use Rattle.card.specs.declared.Report.{Report}
-use Rattle.card.specs.Plan.{Plan, guard, need, ended, go_ahead, refused, done}
-use Rattle.card.specs.Files.{files_of, run_at, content_of, get_plan, get_end, line_end, no_line}
+use Rattle.card.specs.declared.Refusal.{Refusal}
+use Rattle.card.specs.Answers.{number_of, reported_of, lined_of}
+use Rattle.card.specs.Plan.{Plan, refuse, guard, need, ended, go_ahead, refused, done}
+use Rattle.card.specs.Files.{files_of, run_at, content_of, get_plan, get_end, list_plan, list_end, line_end}
 use Rattle.card.specs.Sound.{shape_ok, sound}
-use Rattle.card.specs.Reading.{files_in, files_shown, page_shown, read_plan, read, read_line, read_get}
+use Rattle.card.specs.Reading.{files_in, files_shown, page_shown, read_plan, read, read_list, read_line, read_get}
 use Rattle.card.proofs.SoundTests.{shape-length, shape-laid, head-word, as-table}
-use Rattle.card.specs.Inner.{IsGot, get_at, get_in, no_report, no_lined}
+use Rattle.card.proofs.LineLaws.{line-counted}
+use Rattle.card.specs.Inner.{IsGot, get_at, get_in}
 
 module _ (g : Geo) (tab img out : List ℕ) (j : ℕ) {r : Run} (e : r ≡ run_at g tab img j) where
-  pub got-short : {a : Answer} → length out < r.bytes → a ≡ refused 10 → IsGot a out (get_at g tab img out j)
+  pub got-short : length out < r.bytes → IsGot (refused 10) out (get_at g tab img out j)
   unfolding get_at get_end guard ended
-  got-short l f = let z : leb (run_at g tab img j).bytes (length out) ≡ false = rw e at (lt-leb r.bytes (length out) l) in (rw z f, rw z)
+  got-short l = let z : leb (run_at g tab img j).bytes (length out) ≡ false = rw e at (lt-leb r.bytes (length out) l) in (rw z, rw z)
 
-  pub got-done : {a : Answer} {x : List ℕ} → r.bytes ≤ length out → x ≡ splice out 0 (content_of img r) → a ≡ done r.bytes → IsGot a x (get_at g tab img out j)
+  pub got-done : {x : List ℕ} → r.bytes ≤ length out → x ≡ splice out 0 (content_of img r) → IsGot (done r.bytes) x (get_at g tab img out j)
   unfolding get_at get_end guard ended
-  got-done l h f = let z : leb (run_at g tab img j).bytes (length out) ≡ true = rw e at (le-leb r.bytes (length out) l) in (rw z (rw e at f), rw z (rw e at h))
+  got-done l h = let z : leb (run_at g tab img j).bytes (length out) ≡ true = rw e at (le-leb r.bytes (length out) l) in (rw (e, z), rw z (rw e at h))
 
-module _ (g : Geo) (tab img n out : List ℕ) {b : Bool} (e : b ≡ good_name n) where
-  pub got-name : {a : Answer} → not b ≡ true → a ≡ refused 5 → IsGot a out (get_in g tab img n out)
+module _ (g : Geo) (tab img n out : List ℕ) where
+  pub got-name : false ≡ good_name n → IsGot (refused 5) out (get_in g tab img n out)
   unfolding get_in get_plan get_end guard ended
-  got-name q f = let z : good_name n ≡ false = sym e ∙ not-true b q in (rw z f, rw z)
+  got-name e = (rw (← e), rw (← e))
 
-  module _ {o : Found} (q : not b ≡ false) (f : o ≡ first_at (named tab tab n) 0 (entries_of g (sec img))) where
-    pub got-none : {a : Answer} → o ≡ Nowhere → a ≡ refused 6 → IsGot a out (get_in g tab img n out)
+  module _ (e : true ≡ good_name n) where
+    pub got-none : first_at (named tab tab n) 0 (entries_of g (sec img)) ≡ None → IsGot (refused 6) out (get_in g tab img n out)
     unfolding get_in get_plan get_end guard need ended
-    got-none h k =
-        let z : good_name n ≡ true = sym e ∙ not-false b q in
-        let y : first_at (named tab tab n) 0 (entries_of g (sec img)) ≡ Nowhere = sym f ∙ h in (rw (z, y) k, rw (z, y))
+    got-none y = (rw (← e, y), rw (← e, y))
 
-    pub got-found : {a : Answer} {x : List ℕ} (j : ℕ) → o ≡ At j → IsGot a x (get_at g tab img out j) → IsGot a x (get_in g tab img n out)
+    pub got-found : {a : Answer} {x : List ℕ} (j : ℕ) → first_at (named tab tab n) 0 (entries_of g (sec img)) ≡ Some j → IsGot a x (get_at g tab img out j)
+        → IsGot a x (get_in g tab img n out)
     unfolding get_in get_at get_plan get_end guard need
-    got-found j h k =
-        let z : good_name n ≡ true = sym e ∙ not-false b q in
-        let y : first_at (named tab tab n) 0 (entries_of g (sec img)) ≡ At j = sym f ∙ h in (rw (z, y) k.0, rw (z, y) k.1)
+    got-found j y k = (rw (← e, y) k.0, rw (← e, y) k.1)
 
--- ---- the reading calls: refused, or not
-
-module _ (img : List ℕ) {s : Bool} (e : s ≡ shape_ok img) where
-  plan-shape : not s ≡ true → (p : Plan) → read_plan img p ≡ guard 1 false p
-  unfolding read_plan guard
-  plan-shape n p = let z : shape_ok img ≡ false = sym e ∙ not-true s n in rw z
-
-  plan-sound : not s ≡ false → {t : Bool} → t ≡ sound img → not t ≡ true → (p : Plan) → read_plan img p ≡ guard 2 false p
-  unfolding read_plan guard
-  plan-sound n {t} f m p =
-      let z : shape_ok img ≡ true = sym e ∙ not-false s n in
-      let y : sound img ≡ false = sym f ∙ not-true t m in rw (z, y)
+-- ---- the reading calls
 
 plan-go : (img : List ℕ) → shape_ok img ≡ true → sound img ≡ true → (p : Plan) → read_plan img p ≡ p
 unfolding read_plan guard
 plan-go img z y p = rw (z, y)
 
--- number 1, whatever the call goes on to
-module _ (img : List ℕ) {s : Bool} (e : s ≡ shape_ok img) (n : not s ≡ true) where
-  pub shape-read : {r : Report} → r ≡ no_report 1 → r ≡ read img
-  unfolding read no_report guard ended
-  shape-read f = rw (plan-shape img e n go_ahead) f
+-- refused before anything else is tested
+pub plan-shape : (img : List ℕ) → false ≡ shape_ok img → (p : Plan) → read_plan img p ≡ refuse 1
+unfolding read_plan guard
+plan-shape img e p = rw (← e)
 
-  pub shape-line : (i : ℕ) {r : Lined} → r ≡ no_lined 1 → r ≡ read_line img i
-  unfolding read_line line_end no_lined guard ended
-  shape-line i f = rw (plan-shape img e n go_ahead) f
+pub plan-sound : (img : List ℕ) → true ≡ shape_ok img → false ≡ sound img → (p : Plan) → read_plan img p ≡ refuse 2
+unfolding read_plan guard
+plan-sound img e f p = rw (← e, ← f)
 
-  pub shape-get : (name out : List ℕ) {a : Answer} → a ≡ refused 1 → IsGot a out (read_get img name out)
-  unfolding read_get get_end guard ended
-  shape-get name out f =
-      let z = plan-shape img e n (get_plan (geo_of (sec img)) (table_of (geo_of (sec img)) (sec img)) img name out) in (rw z f, rw z)
+module _ (img : List ℕ) (r : Refusal) (e : (p : Plan) → read_plan img p ≡ refuse (number_of r)) where
+  pub read-refused : reported_of (Err r) ≡ read img
+  unfolding read ended
+  read-refused = rw (e go_ahead)
 
--- number 2
-module _ (img : List ℕ) {s t : Bool} (e : s ≡ shape_ok img) (n : not s ≡ false) (f : t ≡ sound img) (m : not t ≡ true) where
-  pub sound-read : {r : Report} → r ≡ no_report 2 → r ≡ read img
-  unfolding read no_report guard ended
-  sound-read k = rw (plan-sound img e n f m go_ahead) k
+  pub line-refused : (i : ℕ) → lined_of (Err r) ≡ read_line img i
+  unfolding read_line line_end ended
+  line-refused i = rw (e go_ahead)
 
-  pub sound-line : (i : ℕ) {r : Lined} → r ≡ no_lined 2 → r ≡ read_line img i
-  unfolding read_line line_end no_lined guard ended
-  sound-line i k = rw (plan-sound img e n f m go_ahead) k
+  pub get-refused : (name out : List ℕ) → IsGot (refused (number_of r)) out (read_get img name out)
+  unfolding read_get get_end ended
+  get-refused name out =
+      let z = e (get_plan (geo_of (sec img)) (table_of (geo_of (sec img)) (sec img)) img name out) in (rw z, rw z)
 
-  pub sound-get : (name out : List ℕ) {a : Answer} → a ≡ refused 2 → IsGot a out (read_get img name out)
-  unfolding read_get get_end guard ended
-  sound-get name out k =
-      let z = plan-sound img e n f m (get_plan (geo_of (sec img)) (table_of (geo_of (sec img)) (sec img)) img name out) in (rw z k, rw z)
+  pub list-refused : (lines : List Line) → (refused (number_of r) ≡ (read_list img lines).answer) × (lines ≡ (read_list img lines).lines)
+  unfolding read_list list_end ended
+  list-refused lines = let z = e (list_plan (files_shown img) (length lines)) in (rw z, rw z)
 
 -- done: for the geometry that the card stores and the view that takes its table as it is
 module _ (img : List ℕ) (shape : shape_ok img ≡ true) (ok : sound img ≡ true) (g : Geo) (v : View) (e : g ≡ geo_of (sec img)) (f : v ≡ as_is g) where
@@ -116,7 +98,7 @@ module _ (img : List ℕ) (shape : shape_ok img ≡ true) (ok : sound img ≡ tr
   files = rw (tab, e)
 
   pub read_done : {C N n m : ℕ} → C ≡ word_at img 0 → N ≡ g_n g → n ≡ length (files_of (table_in g v (sec img)) (entries_of g (sec img))) → m ≡ clear_bits (page_in g (table_in g v (sec img)) (sec img))
-      → record { number = 0; c = record { 0 = C }; n = N; files = n; free = m } ≡ read img
+      → reported_of (Ok (record { c = record { 0 = C }; n = N; files = n; free = m })) ≡ read img
   unfolding read page_shown ended count_of
   read_done {C} {N} {n} {m} p o q r =
       let a : C ≡ word_at (sec img 0) 0 = p ∙ sym (head-word img (shape-length img shape)) in
@@ -124,16 +106,16 @@ module _ (img : List ℕ) (shape : shape_ok img ≡ true) (ok : sound img ≡ tr
       let c : m ≡ clear_bits (page_in (geo_of (sec img)) (table_of (geo_of (sec img)) (sec img)) (sec img)) = rw (tab, e) at r in
       rw (plan-go img shape ok go_ahead, a, o, b, c, e)
 
-  pub line-done : (i : ℕ) {n o : ℕ} {a : Answer} {l : Line} → n ≡ length (files_of (table_in g v (sec img)) (entries_of g (sec img))) → o ≡ bit (ltb i n) → a ≡ done o
-      → l ≡ get_or (files_of (table_in g v (sec img)) (entries_of g (sec img))) i no_line → record { answer = a; line = l } ≡ read_line img i
-  unfolding read_line line_end ended
-  line-done i {n} {o} {a} {l} p q r s =
-      let x : a ≡ done (bit (ltb i (length (files_shown img)))) = r ∙ ap done (q ∙ ap (λ (k : ℕ). bit (ltb i k)) (p ∙ ap length files)) in
-      let y : l ≡ get_or (files_shown img) i no_line = s ∙ ap (λ (k : List Line). get_or k i no_line) files in
-      rw (plan-go img shape ok go_ahead, x, y)
+  pub line-done : (i : ℕ) {o : Option Line} → o ≡ slice_get (files_of (table_in g v (sec img)) (entries_of g (sec img))) i → lined_of (Ok o) ≡ read_line img i
+  unfolding read_line
+  line-done i s = rw (plan-go img shape ok go_ahead, s, files) (line-counted (files_shown img) i)
 
   pub get-done : (name out : List ℕ) {a : Answer} {x : List ℕ} → IsGot a x (get_in g (table_in g v (sec img)) img name out) → IsGot a x (read_get img name out)
   unfolding read_get get_in
   get-done name out h =
       let z = plan-go img shape ok (get_plan (geo_of (sec img)) (table_of (geo_of (sec img)) (sec img)) img name out) in
       (rw z (rw (tab, e) at h.0), rw z (rw (tab, e) at h.1))
+
+  pub list-read : (lines : List Line) → let fs = files_of (table_in g v (sec img)) (entries_of g (sec img)) in list_end fs lines (list_plan fs (length lines)) ≡ read_list img lines
+  unfolding read_list
+  list-read lines = rw (plan-go img shape ok (list_plan (files_shown img) (length lines)), files)

@@ -93,7 +93,7 @@ module _ (g : Geo) (img : List ℕ) (laid : LaidOut g img) {v : View} (e : v ≡
 
 -- the counts and the table, as code tests them
 module _ (g : Geo) (img : List ℕ) {a : Bool} (ea : a ≡ every is_zero (take 496 (drop 16 img))) where
-  zeros-here : a ≡ every is_zero (drop 16 (sec img 0))
+  pub zeros-here : a ≡ every is_zero (drop 16 (sec img 0))
   zeros-here = ea ∙ ap (every is_zero) (sym (head-rest img))
 
   pub counts-no : not a ≡ true → false ≡ counts_ok g (sec img)

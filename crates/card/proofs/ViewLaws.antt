@@ -55,10 +55,8 @@ module _ (g : Geo) (tab img : List ℕ) (p : ℕ) {n : ℕ} where
   page-room laid l h e = let r = shown-before g p tab (group_of (index_in g (sec img)) p) l (h p l) in omega (arith, r.1, laid.room, laid.dir)
 
 -- a page has at most 4,096 clear bits
-pub clear-page : (img : List ℕ) (n : ℕ) {c : ℕ} → c ≡ clear_bits (lent img n) → c ≤ 4096
-clear-page img n e =
-    let l : length (lent img n) ≤ 512 = simp length-take (omega arith) in
-    omega (arith, clear-most (lent img n))
+pub clear-page : (s : List ℕ) {c : ℕ} → length s ≡ 512 → c ≡ clear_bits s → c ≤ 4096
+clear-page s l e = omega (arith, clear-most s)
 
 -- the clear bits, page by page: the loop's start, a turn, and its end
 module _ (g : Geo) (tab img : List ℕ) where
@@ -66,14 +64,14 @@ module _ (g : Geo) (tab img : List ℕ) where
   unfolding page_in
   clear-start = let e : g_p g - 0 ≡ g_p g = omega arith in let z : 0 + clear_bits (map_from g tab (sec img) 0 (g_p g)) ≡ clear_bits (map_from g tab (sec img) 0 (g_p g)) = omega arith in rw e z
 
-  pub clear-turn : (p r : ℕ) {n c s : ℕ} → p < g_p g → n ≡ shown_page tab (group_of (index_in g (sec img)) p) → c ≡ clear_bits (lent img n) → r + clear_bits (map_from g tab (sec img) p (g_p g - p)) ≡ s
+  pub clear-turn : (p r : ℕ) {n c s : ℕ} → p < g_p g → n ≡ shown_page tab (group_of (index_in g (sec img)) p) → c ≡ clear_bits (sec img n) → r + clear_bits (map_from g tab (sec img) p (g_p g - p)) ≡ s
       → r + c + clear_bits (map_from g tab (sec img) (p + 1) (g_p g - (p + 1))) ≡ s
   unfolding map_from
   clear-turn p r {n} l e f h =
       let m : g_p g - p ≡ suc (g_p g - suc p) = omega arith in
       let q : clear_bits (page_at g tab (sec img) p ++ map_from g tab (sec img) (suc p) (g_p g - suc p)) ≡ clear_bits (page_at g tab (sec img) p) + clear_bits (map_from g tab (sec img) (suc p) (g_p g - suc p)) =
       clear-over (page_at g tab (sec img) p) (map_from g tab (sec img) (suc p) (g_p g - suc p)) in
-      let x : clear_bits (lent img n) ≡ clear_bits (page_at g tab (sec img) p) = ap clear_bits (page-lent g tab img p e) in
+      let x : clear_bits (sec img n) ≡ clear_bits (page_at g tab (sec img) p) = ap clear_bits (sym (sec-part img n) ∙ page-lent g tab img p e) in
       rw add-one (omega (arith, q, x, f, rw m at h))
 
   pub clear-end : (p r : ℕ) {s : ℕ} → g_p g ≤ p → r + clear_bits (map_from g tab (sec img) p (g_p g - p)) ≡ s → r ≡ s
@@ -86,16 +84,16 @@ index-pair g bound tab ix h p l = ((index-inv g bound tab ix h).groups p l).pair
 -- ---- a view, as its tests are made: index, entries, page
 
 module _ (g : Geo) (bound : ℕ) (tab img : List ℕ) {a : Bool} (e : a ≡ index_ok g bound tab (lent img (g.t + 1))) where
-  here : a ≡ index_ok g bound tab (index_in g (sec img))
+  pub index-here : a ≡ index_ok g bound tab (index_in g (sec img))
   unfolding index_in
-  here = e ∙ ap (index_ok g bound tab) (sec-part img (g.t + 1))
+  index-here = e ∙ ap (index_ok g bound tab) (sec-part img (g.t + 1))
 
   pub view-index : not a ≡ true → false ≡ view_ok g bound tab (sec img)
   unfolding view_ok
-  view-index n = let z : index_ok g bound tab (index_in g (sec img)) ≡ false = sym here ∙ not-true a n in rw z
+  view-index n = let z : index_ok g bound tab (index_in g (sec img)) ≡ false = sym index-here ∙ not-true a n in rw z
 
   pub view-pair : not a ≡ false → PairIn g img
-  view-pair n = index-pair g bound tab (index_in g (sec img)) (sym here ∙ not-false a n)
+  view-pair n = index-pair g bound tab (index_in g (sec img)) (sym index-here ∙ not-false a n)
 
   pub view-entries : {b : Bool} → b ≡ every (entry_ok g bound tab) (entries_of g (sec img)) → not b ≡ true → false ≡ view_ok g bound tab (sec img)
   unfolding view_ok
@@ -107,7 +105,7 @@ module _ (g : Geo) (bound : ℕ) (tab img : List ℕ) {a : Bool} (e : a ≡ inde
       → c ≡ page_ok g (cover (files_of tab (entries_of g (sec img)))) (page_in g tab (sec img)) → c ≡ view_ok g bound tab (sec img)
   unfolding view_ok
   view-page {b} {c} q f r k =
-      let y : index_ok g bound tab (index_in g (sec img)) ≡ true = sym here ∙ not-false a q in
+      let y : index_ok g bound tab (index_in g (sec img)) ≡ true = sym index-here ∙ not-false a q in
       let z : every (entry_ok g bound tab) (entries_of g (sec img)) ≡ true = sym f ∙ not-false b r in
       rw (y, z) k
 

@@ -12,8 +12,7 @@ use Rattle.entries.specs.declared.Version.TheVariants.{Absent, Present}
 use Rattle.entries.specs.Entries.{shown, name_bytes, good_name, Piece, pieces_of}
 use Rattle.directory.specs.Directory.{entries_of, named}
 use Rattle.card.specs.declared.Line.{Line}
-use Rattle.card.specs.declared.Lined.{Lined}
-use Rattle.card.specs.Plan.{Plan, guard, need, ended, go_ahead, do_at, refused, done, Got, Listed}
+use Rattle.card.specs.Plan.{Lined, Plan, guard, need, ended, go_ahead, do_at, refused, done, Got, Listed}
 
 -- the line of an entry that shows a version, where it is present
 unfoldable pub cons_file : List ℕ → Version → List Line → List Line

@@ -1,24 +1,17 @@
 -- What the contracts of inner functions cite besides the words of the papers: what such a function asks of its caller, and what it answers. Assumes nothing.
-use Rattle.std.specs.Prelude.{◌≡◌, true, not, List, [], ℕ, ◌<◌, length, get_or, leb}
-use Rattle.words_sums.specs.Sums.{bit}
+use Rattle.std.specs.Prelude.{◌≡◌, true, List, [], ℕ, ◌<◌, length, get_or, leb}
 use Rattle.words.specs.Bytes.{word_at}
 use Rattle.counts.specs.declared.Geo.{Geo}
 use Rattle.entries.specs.declared.Run.{Run}
-use Rattle.entries.specs.Entries.{shown, run_ok, is_absent, name_bytes}
-use Rattle.card.specs.Files.{run_of, run_at, no_line, get_plan, get_end}
+use Rattle.entries.specs.Entries.{shown, run_ok, name_bytes}
+use Rattle.card.specs.Files.{run_of, run_at, get_plan, get_end}
 use Rattle.card.specs.declared.Line.{Line}
 use Rattle.card.specs.declared.Answer.{Answer}
-use Rattle.card.specs.declared.Lined.{Lined}
-use Rattle.card.specs.declared.Report.{Report}
-use Rattle.card.specs.Plan.{guard, do_at, refused, Got}
+use Rattle.card.specs.Plan.{guard, do_at, Got}
 
 -- every entry shows a run that is well formed
 abbrev pub RunsOk : Geo → List ℕ → List (List ℕ) → Type 0
 RunsOk g tab es = (j : ℕ) → j < length es → run_ok g (run_of (shown tab (get_or es j []))) ≡ true
-
--- 1 where an entry shows a file, else 0
-unfoldable pub shows : List ℕ → List ℕ → ℕ
-shows tab p = bit (not (is_absent (shown tab p)))
 
 -- the line of an entry with that run
 unfoldable pub line_of : List ℕ → Run → Line
@@ -34,10 +27,3 @@ get_at g tab img out j = get_end g tab img out (guard 10 (leb (run_at g tab img 
 
 unfoldable pub get_in : Geo → List ℕ → List ℕ → List ℕ → List ℕ → Got
 get_in g tab img n out = get_end g tab img out (get_plan g tab img n out)
-
--- a refusal's report
-unfoldable pub no_report : ℕ → Report
-no_report k = record { number = k; c = record { 0 = 0 }; n = 0; files = 0; free = 0 }
-
-unfoldable pub no_lined : ℕ → Lined
-no_lined k = record { answer = refused k; line = no_line }

@@ -1,5 +1,6 @@
 pub mod Plan
 pub mod Files
+pub mod Answers
 pub mod Sound
 pub mod Make
 pub mod Reading

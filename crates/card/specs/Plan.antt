@@ -1,8 +1,7 @@
 -- "Numbers given back": a call's tests in their order, and what it answers. Assumes nothing.
-use Rattle.std.specs.Prelude.{Bool, true, false, List, ℕ}
-use Rattle.words.specs.declared.Found.{Found}
-use Rattle.words.specs.declared.Found.TheVariants.{At, Nowhere}
+use Rattle.std.specs.Prelude.{Bool, true, false, List, ℕ, Option, Some, None}
 use Rattle.sectors.specs.declared.Sector.{Sector}
+use Rattle.counts.specs.declared.CrashCount.{CrashCount}
 use Rattle.card.specs.declared.Answer.{Answer}
 use Rattle.card.specs.declared.Line.{Line}
 
@@ -25,9 +24,9 @@ guard k true p = p
 guard k false p = refuse k
 
 -- number k where a search finds nothing
-unfoldable pub need : ℕ → Found → (ℕ → Plan) → Plan
-need k Nowhere f = refuse k
-need k (At i) f = f i
+unfoldable pub need : ℕ → Option ℕ → (ℕ → Plan) → Plan
+need k None f = refuse k
+need k (Some i) f = f i
 
 unfoldable pub ended : {A : Type 0} → Plan → (ℕ → A) → (ℕ → Sector → A) → A
 ended (refuse k) f h = f k
@@ -40,6 +39,19 @@ refused k = record { number = k; count = 0 }
 -- 0, "done", with a count
 unfoldable pub done : ℕ → Answer
 done n = record { number = 0; count = n }
+
+-- what reading a card gives: the number, C, N, the file count and the clear bits shown
+pub record Report : Type 0 where
+  pub number : ℕ
+  pub c : CrashCount
+  pub n : ℕ
+  pub files : ℕ
+  pub free : ℕ
+
+-- the line at a position; the count is 1 where there is one, else 0
+pub record Lined : Type 0 where
+  pub answer : Answer
+  pub line : Line
 
 -- what a call leaves: its answer, and the one image that it may change
 pub record Changed : Type 0 where

@@ -7,9 +7,7 @@ use Rattle.directory.specs.Directory.{entries_of}
 use Rattle.apages.specs.Bits.{clear_bits}
 use Rattle.apages.specs.Index.{page_in}
 use Rattle.card.specs.declared.Line.{Line}
-use Rattle.card.specs.declared.Lined.{Lined}
-use Rattle.card.specs.declared.Report.{Report}
-use Rattle.card.specs.Plan.{Plan, guard, ended, go_ahead, Got, Listed}
+use Rattle.card.specs.Plan.{Lined, Report, Plan, guard, ended, go_ahead, Got, Listed}
 use Rattle.card.specs.Files.{files_of, get_plan, get_end, list_plan, list_end, line_end}
 use Rattle.card.specs.Sound.{shape_ok, sound}
 

@@ -1,2 +1,2 @@
 -- What belongs to no one function.
-pub mod NextLaws
+pub mod Listed

@@ -6,10 +6,11 @@ ghost use Rattle.sectors.specs.Sectors.{set_sec};
 ghost use Rattle.counts.specs.Geometry.{g_p};
 ghost use Rattle.counts.specs.Inner.{InLimits, LaidOut};
 ghost use Rattle.apages.specs.Runs.{data_from, data_to, fresh_page};
+ghost use Rattle.card.specs.Answers.{uncounted};
 ghost use Rattle.card.specs.Make.{block_bytes, fresh_group, fresh_index, fresh_pages, fresh_card, make};
 
 use apages::Index;
-use card::{Answer, refusal, success};
+use card::Refusal;
 use counts::{CrashCount, Geo, Stamp, TxCount};
 use sectors::Sector;
 
@@ -31,9 +32,10 @@ fn data_from(g: Geo, p: u32) -> usize
     ensures { (result ≡ data_from g p) × (result ≤ 4096) }
 {
     if p > 0 {
-        return 0;
+        0
+    } else {
+        counts::data_first(g).0 as usize
     }
-    counts::data_first(g).0 as usize
 }
 
 // Where the data ends in page p: at S, or at the page's end.
@@ -41,8 +43,7 @@ fn data_to(g: Geo, p: u32) -> usize
     requires { InLimits g × (p < g_p g) }
     ensures { (result ≡ data_to g p) × (result ≤ 4096) }
 {
-    let left = (g.s - 4096 * p) as usize;
-    if left < 4096 { left } else { 4096 }
+    (g.s - 4096 * p).min(4096) as usize
 }
 
 // Page p with its bits below F and from S up set.
@@ -53,8 +54,8 @@ fn fresh_page(g: Geo, p: u32) -> [u8; 512]
     let f = data_from(g, p);
     let s = data_to(g, p);
     let mut page = [0u8; 512];
-    apages::set_run(&mut page, 0, f, 1);
-    apages::set_run(&mut page, s, 4096 - s, 1);
+    apages::set_run(&mut page, 0, f, true);
+    apages::set_run(&mut page, s, 4096 - s, true);
     page
 }
 
@@ -63,13 +64,15 @@ fn fresh_group(g: Geo, p: u32) -> Index
     requires { InLimits g × (p < g_p g) }
     ensures { result ≡ fresh_group g p }
 {
-    let stamp = Stamp {
-        cc: CrashCount(0),
-        txc: TxCount(0),
-    };
-    let a = counts::pair_low(g, p);
-    let b = counts::pair_high(g, p);
-    Index { stamp, a, b }
+    let (a, b) = counts::pair(g, p);
+    Index {
+        stamp: Stamp {
+            cc: CrashCount(0),
+            txc: TxCount(0),
+        },
+        a,
+        b,
+    }
 }
 
 // The index sector: "the index holds P groups".
@@ -77,13 +80,9 @@ fn fresh_index(g: Geo) -> [u8; 512]
     requires { InLimits g }
     ensures { result ≡ fresh_index g }
 {
-    let pairs = counts::pairs(g);
     let mut s = [0u8; 512];
-    let mut p = 0;
-    while p < pairs {
-        let x = fresh_group(g, p);
-        apages_index::put_group(&mut s, 16 * (p as usize), x);
-        p += 1;
+    for p in 0..counts::pairs(g) {
+        apages_index::put_group(&mut s, 16 * (p as usize), fresh_group(g, p));
     }
     s
 }
@@ -93,15 +92,11 @@ fn fresh_pages(g: Geo, card: &mut [u8])
     requires { LaidOut g card.old }
     ensures { card.new ≡ fresh_pages g 0 (g_p g) card.old }
 {
-    let pairs = counts::pairs(g);
-    let mut p = 0;
-    while p < pairs {
+    for p in 0..counts::pairs(g) {
         let page = fresh_page(g, p);
-        let a = counts::pair_low(g, p);
-        let b = counts::pair_high(g, p);
+        let (a, b) = counts::pair(g, p);
         sectors::write_sector(card, a, &page);
         sectors::write_sector(card, b, &page);
-        p += 1;
     }
 }
 
@@ -110,8 +105,7 @@ fn put_block(g: Geo, card: &mut [u8])
     requires { LaidOut g card.old }
     ensures { card.new ≡ set_sec card.old 0 (block_bytes 0 g) }
 {
-    let block = fresh_block(g);
-    sectors::write_sector(card, Sector(0), &block)
+    sectors::write_sector(card, Sector(0), &fresh_block(g))
 }
 
 // Writes the index.
@@ -119,8 +113,7 @@ fn put_index(g: Geo, card: &mut [u8])
     requires { LaidOut g card.old }
     ensures { card.new ≡ set_sec card.old (g.t + 1) (fresh_index g) }
 {
-    let index = fresh_index(g);
-    sectors::write_sector(card, Sector(g.t + 1), &index)
+    sectors::write_sector(card, Sector(g.t + 1), &fresh_index(g))
 }
 
 // Makes a fresh card of an image as long as its geometry says, with one sector's buffer at a time.
@@ -128,22 +121,19 @@ fn make_in(g: Geo, card: &mut [u8])
     requires { LaidOut g card.old × (length card.old ≡ 512 * g.s) }
     ensures { card.new ≡ fresh_card g }
 {
-    words::clear(card);
+    card.fill(0);
     put_block(g, card);
     put_index(g, card);
     fresh_pages(g, card)
 }
 
-// Makes a fresh card: number 1, or 0.
-pub fn make(g: Geo, card: &mut [u8]) -> Answer
-    ensures { (result ≡ (make g card.old).answer) × (card.new ≡ (make g card.old).image) }
+// Makes a fresh card: refused with 1, or done.
+pub fn make(g: Geo, card: &mut [u8]) -> Result<(), Refusal>
+    ensures { (uncounted result ≡ (make g card.old).answer) × (card.new ≡ (make g card.old).image) }
 {
-    if !counts::geo_ok(g) {
-        return refusal(1);
-    }
-    if card.len() != 512 * (g.s as usize) {
-        return refusal(1);
+    if !counts::geo_ok(g) || card.len() != 512 * (g.s as usize) {
+        return Err(Refusal::Shape);
     }
     make_in(g, card);
-    success(0)
+    Ok(())
 }

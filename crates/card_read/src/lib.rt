@@ -1,115 +1,73 @@
 // Reading a card without a session: the report, the line at a position, and get.
 #![tactic(auto)]
 
-ghost use Rattle.std.specs.Prelude.{◌≡◌, true};
+ghost use Rattle.std.specs.Prelude.{◌≡◌, true, Ok};
+ghost use Rattle.card.specs.Answers.{counted, reported_of, lined_of};
+ghost use Rattle.card.specs.Inner.{IsGot};
 ghost use Rattle.card.specs.Sound.{shape_ok, sound};
 ghost use Rattle.card.specs.Reading.{read, read_line, read_get};
-ghost use Rattle.card.specs.Inner.{no_report};
 
-use card::{Answer, Lined, Report, refusal, success};
-use card_files::{clear_in, file_count, get_in, line_in, no_lined, one_if};
-use card_sound::{shape_ok, sound};
+use card::{Contents, Line, Refusal};
+use card_files::{clear_in, file_count, get_in, line_in};
+use card_sound::judged;
 use counts::CrashCount;
 
-// A refusal: its number, and zeros.
-fn no_report(k: u32) -> Report
-    ensures { result ≡ no_report k }
-{
-    Report {
-        number: k,
-        c: CrashCount(0),
-        n: 0,
-        files: 0,
-        free: 0,
-    }
-}
-
 // Reads a card that is sound.
-fn read_in(card: &[u8]) -> Report
+fn read_in(card: &[u8]) -> Contents
     requires { (shape_ok card.now ≡ true) × (sound card.now ≡ true) }
-    ensures { result ≡ read card.now }
+    ensures { reported_of (Ok result) ≡ read card.now }
 {
     let g = counts::geo_of(card);
     let v = counts::as_is(g);
-    let c = CrashCount(words::word_at(card, 0));
-    let n = counts::crash_counts(g);
-    let files = file_count(card, g, v);
-    let free = clear_in(card, g, v);
-    Report {
-        number: 0,
-        c,
-        n,
-        files,
-        free,
+    Contents {
+        c: CrashCount(words::word_at(card, 0)),
+        n: counts::crash_counts(g),
+        files: file_count(card, g, v),
+        free: clear_in(card, g, v),
     }
 }
 
-// Reads a card: C, N, the file count and the clear bits shown; number 1 or 2.
-pub fn read(card: &[u8]) -> Report
-    ensures { result ≡ read card.now }
+// Reads a card: C, N, the file count and the clear bits shown; refused with 1 or 2.
+pub fn read(card: &[u8]) -> Result<Contents, Refusal>
+    ensures { reported_of result ≡ read card.now }
 {
-    let shape = shape_ok(card);
-    if !shape {
-        return no_report(1);
-    }
-    let ok = sound(card);
-    if !ok {
-        return no_report(2);
-    }
-    read_in(card)
+    judged(card)?;
+    Ok(read_in(card))
 }
 
 // The line at a position of a card that is sound.
-pub fn read_line_in(card: &[u8], i: u32) -> Lined
+pub fn read_line_in(card: &[u8], i: u32) -> Option<Line>
     requires { (shape_ok card.now ≡ true) × (sound card.now ≡ true) }
-    ensures { result ≡ read_line card.now i }
+    ensures { lined_of (Ok result) ≡ read_line card.now i }
 {
     let g = counts::geo_of(card);
     let v = counts::as_is(g);
-    let n = file_count(card, g, v);
-    let line = line_in(card, g, v, i);
-    let answer = success(one_if(i < n));
-    Lined { answer, line }
+    line_in(card, g, v, i)
 }
 
-// The line at a position of a card; number 1 or 2.
-pub fn read_line(card: &[u8], i: u32) -> Lined
-    ensures { result ≡ read_line card.now i }
+// The line at a position of a card; refused with 1 or 2.
+pub fn read_line(card: &[u8], i: u32) -> Result<Option<Line>, Refusal>
+    ensures { lined_of result ≡ read_line card.now i }
 {
-    let shape = shape_ok(card);
-    if !shape {
-        return no_lined(1);
-    }
-    let ok = sound(card);
-    if !ok {
-        return no_lined(2);
-    }
-    read_line_in(card, i)
+    judged(card)?;
+    Ok(read_line_in(card, i))
 }
 
 // Gets a file of a card that is sound.
-fn read_get_in(card: &[u8], name: &[u8], out: &mut [u8]) -> Answer
+fn read_get_in(card: &[u8], name: &[u8], out: &mut [u8]) -> Result<u32, Refusal>
     requires { (shape_ok card.now ≡ true) × (sound card.now ≡ true) }
-    ensures { (result ≡ (read_get card.now name.now out.old).answer)
-        × (out.new ≡ (read_get card.now name.now out.old).out) }
+    ensures { IsGot (counted result) out.new (read_get card.now name.now out.old) }
 {
     let g = counts::geo_of(card);
     let v = counts::as_is(g);
     get_in(card, g, v, name, out)
 }
 
-// Gets a file of a card: number 1, 2, 5, 6, 10, or 0 with its bytes.
-pub fn read_get(card: &[u8], name: &[u8], out: &mut [u8]) -> Answer
-    ensures { (result ≡ (read_get card.now name.now out.old).answer)
+// Gets a file of a card; refused with 1, 2, 5, 6 or 10.
+pub fn read_get(card: &[u8], name: &[u8], out: &mut [u8]) -> Result<u32, Refusal>
+    ensures { (counted result ≡ (read_get card.now name.now out.old).answer)
         × (out.new ≡ (read_get card.now name.now out.old).out) }
 {
-    let shape = shape_ok(card);
-    if !shape {
-        return refusal(1);
-    }
-    let ok = sound(card);
-    if !ok {
-        return refusal(2);
-    }
+    judged(card)?;
     read_get_in(card, name, out)
 }

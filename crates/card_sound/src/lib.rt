@@ -1,31 +1,29 @@
 // When a card is sound: its shape, its table and its views.
 #![tactic(auto)]
 
-ghost use Rattle.std.specs.Prelude.{◌≡◌, true};
+ghost use Rattle.std.specs.Prelude.{◌≡◌, true, OnOk, IfErr};
 ghost use Rattle.sectors.specs.Sectors.{sec};
 ghost use Rattle.counts.specs.Geometry.{count_of};
 ghost use Rattle.counts.specs.Stamps.{table_in};
 ghost use Rattle.counts.specs.Inner.{LaidOut};
+ghost use Rattle.card.specs.Answers.{number_of};
+ghost use Rattle.card.specs.Plan.{Plan, refuse};
+ghost use Rattle.card.specs.Reading.{read_plan};
 ghost use Rattle.card.specs.Sound.{view_ok, counts_ok, sound_in, shape_ok, sound};
 
+use card::Refusal;
 use counts::{CrashCount, Geo, View};
+use sectors::Sector;
 
 // Whether a view passes the index, entry and bitmap rules; a dead stamp has its count below the bound. What the scratch holds is of no use before or after.
 pub fn view_ok(card: &[u8], g: Geo, v: View, bound: CrashCount, scratch: &mut [u8; 128]) -> bool
     requires { LaidOut g card.now }
     ensures { result ≡ view_ok g bound.0 (table_in g v (sec card.now)) (sec card.now) }
 {
-    let from = 512 * (g.t as usize + 1);
-    let to = from + 512;
-    let index = apages_index::index_ok(card, g, v, bound, &card[from..to]);
-    if !index {
-        return false;
-    }
-    let entries = directory_rules::entries_ok(card, g, v, bound);
-    if !entries {
-        return false;
-    }
-    card_tally::pages_ok(card, g, v, scratch)
+    let index = sectors::sector_at(card, Sector(g.t + 1));
+    apages_index::index_ok(card, g, v, bound, index)
+        && directory_rules::entries_ok(card, g, v, bound)
+        && card_tally::pages_ok(card, g, v, scratch)
 }
 
 // Whether C is at most N, the rest of sector 0 is zeros and the table's words are in order.
@@ -33,13 +31,9 @@ fn counts_ok(card: &[u8], g: Geo, c: CrashCount) -> bool
     requires { LaidOut g card.now × (c.0 ≡ count_of (sec card.now)) }
     ensures { result ≡ counts_ok g (sec card.now) }
 {
-    let rest = words::zeros(&card[16..512]);
-    if !rest {
-        return false;
-    }
-    let n = counts::crash_counts(g);
-    let table = counts_table::table_ok(card, g, c);
-    (c.0 <= n) & table
+    words::zeros(&card[16..512])
+        && c.0 <= counts::crash_counts(g)
+        && counts_table::table_ok(card, g, c)
 }
 
 // Whether an image is sound by a geometry.
@@ -48,17 +42,11 @@ fn sound_in(card: &[u8], g: Geo) -> bool
     ensures { result ≡ sound_in g (sec card.now) }
 {
     let c = CrashCount(words::word_at(card, 0));
-    let counts = counts_ok(card, g, c);
-    if !counts {
-        return false;
-    }
     let v = counts::as_is(g);
-    let mut scratch = [0u8; 128];
-    let view = view_ok(card, g, v, c, &mut scratch);
-    if !view {
-        return false;
-    }
-    directory_rules::names_ok(card, g, v, v, &mut scratch)
+    let mut scratch = [0; 128];
+    counts_ok(card, g, c)
+        && view_ok(card, g, v, c, &mut scratch)
+        && directory_rules::names_ok(card, g, v, v, &mut scratch)
 }
 
 // Whether an image stores a geometry inside the limits and has 512·S bytes for its S.
@@ -69,11 +57,7 @@ pub fn shape_ok(card: &[u8]) -> bool
         return false;
     }
     let g = counts::geo_of(card);
-    let limits = counts::geo_ok(g);
-    if !limits {
-        return false;
-    }
-    card.len() == 512 * (g.s as usize)
+    counts::geo_ok(g) && card.len() == 512 * (g.s as usize)
 }
 
 // Whether a card of the right shape is sound.
@@ -81,6 +65,19 @@ pub fn sound(card: &[u8]) -> bool
     requires { shape_ok card.now ≡ true }
     ensures { result ≡ sound card.now }
 {
-    let g = counts::geo_of(card);
-    sound_in(card, g)
+    sound_in(card, counts::geo_of(card))
+}
+
+// What every reading call tests first: refused with 1 for its shape, with 2 where it is not sound.
+pub fn judged(card: &[u8]) -> Result<(), Refusal>
+    ensures passed { OnOk result ((shape_ok card.now ≡ true) × (sound card.now ≡ true)) }
+    ensures refused { IfErr result (λ r. (p : Plan) → read_plan card.now p ≡ refuse (number_of r)) }
+{
+    if !shape_ok(card) {
+        return Err(Refusal::Shape);
+    }
+    if !sound(card) {
+        return Err(Refusal::Unsound);
+    }
+    Ok(())
 }

@@ -14,7 +14,7 @@ ghost use Rattle.apages.specs.Index.{page_in};
 ghost use Rattle.apages.specs.Inner.{PairIn};
 ghost use Rattle.card.specs.Files.{files_of, cover, sectors_of};
 ghost use Rattle.card.specs.Inner.{RunsOk};
-ghost use Rattle.card.specs.Tally.{held_by, parted_from, parted_in, fixed_bits};
+ghost use Rattle.card.specs.Tally.{held_by, parted, parted_from, parted_in, fixed_bits};
 ghost use Rattle.card_order.specs.Inner.{Walked};
 ghost use Rattle.card_tally.specs.Inner.{IsShown};
 
@@ -40,15 +40,24 @@ struct Page {
 }
 
 // How many of n bits lie below F or from S up.
+#[tactic(auto, unfolding(card::specs::Tally::fixed_bits))]
 fn fixed_bits(g: Geo, n: u32) -> u32
     requires { InLimits g × (g.s ≤ n) }
     ensures { (result ≡ fixed_bits g n) × (result ≤ n) }
 {
-    let first = counts::data_first(g);
-    if g.s < first.0 {
-        return n;
-    }
-    n - (g.s - first.0)
+    n - g.s.saturating_sub(counts::data_first(g).0)
+}
+
+// Whether the bits of k sectors from a on are set in a page, that of their pair.
+fn page_held(card: &[u8], page: Sector, a: Sector, k: u32) -> bool
+    requires { (512 * page.0 + 512 ≤ length card.now) × (a.0 % 4096 + k ≤ 4096) }
+    ensures { result ≡ all_set (sec card.now page.0) (a.0 % 4096) k }
+{
+    apages_ones::run_set(
+        sectors::sector_at(card, page),
+        (a.0 % 4096) as usize,
+        k as usize,
+    )
 }
 
 // Whether the bits of k sectors from a on, all of one page, are set in the page that a view shows.
@@ -59,10 +68,8 @@ fn held(card: &[u8], g: Geo, v: View, a: Sector, k: u32) -> bool
     if k == 0 {
         return true;
     }
-    let n = card_files::page_at(card, g, v, a.0 / 4096);
-    let at = 512 * (n.0 as usize);
-    let end = at + 512;
-    apages_ones::run_set(&card[at..end], (a.0 % 4096) as usize, k as usize)
+    let page = card_files::page_at(card, g, v, a.0 / 4096);
+    page_held(card, page, a, k)
 }
 
 // The page of a run's pair: the one known, where it is of that pair or the run has no sectors.
@@ -70,29 +77,12 @@ fn page_of(card: &[u8], g: Geo, v: View, known: Page, r: Run) -> Page
     requires { LaidOut g card.now × ((r.start.0 + r.sectors ≤ 4096 * g_p g) × IsShown g (table_in g v (sec card.now)) (sec card.now) known) }
     ensures { IsShown g (table_in g v (sec card.now)) (sec card.now) result × (0 < r.sectors → result.pair ≡ r.start.0 / 4096) }
 {
-    if r.sectors == 0 {
-        return known;
-    }
     let pair = r.start.0 / 4096;
-    if pair == known.pair {
+    if r.sectors == 0 || pair == known.pair {
         return known;
     }
     let at = card_files::page_at(card, g, v, pair);
     Page { pair, at }
-}
-
-// Whether the bits of a run are set in the page of its pair.
-fn page_held(card: &[u8], page: Page, r: Run) -> bool
-    requires { (512 * page.at.0 + 512 ≤ length card.now) × (r.start.0 % 4096 + r.sectors ≤ 4096) }
-    ensures { result ≡ all_set (sec card.now page.at.0) (r.start.0 % 4096) r.sectors }
-{
-    let at = 512 * (page.at.0 as usize);
-    let end = at + 512;
-    apages_ones::run_set(
-        &card[at..end],
-        (r.start.0 % 4096) as usize,
-        r.sectors as usize,
-    )
 }
 
 // One walk over the shown runs: whether their bits are set, their sectors, and how far they lie one after another in the order of their entries.
@@ -100,24 +90,30 @@ fn tally_of(card: &[u8], g: Geo, v: View) -> Tally
     requires { LaidOut g card.now × (PairIn g card.now × RunsOk g (table_in g v (sec card.now)) (entries_of g (sec card.now))) }
     ensures { (result.set ≡ every (held_by (table_in g v (sec card.now)) (page_in g (table_in g v (sec card.now)) (sec card.now))) (entries_of g (sec card.now))) × ((result.sectors ≡ sectors_of (files_of (table_in g v (sec card.now)) (entries_of g (sec card.now)))) × ((result.sectors ≤ 16777216) × Walked g (files_of (table_in g v (sec card.now)) (entries_of g (sec card.now))) result.own)) }
 {
-    let first = card_files::page_at(card, g, v, 0);
-    let mut page = Page { pair: 0, at: first };
-    let mut set = true;
-    let mut sectors: u32 = 0;
-    let mut own = Walk {
-        end: Sector(0),
-        sum: 0,
+    let mut page = Page {
+        pair: 0,
+        at: card_files::page_at(card, g, v, 0),
     };
-    let mut j = 0;
-    while j < 4 * (g.d as usize) {
+    let mut set = true;
+    let mut sectors = 0;
+    let mut own = Walk::START;
+    for j in 0..4 * (g.d as usize) {
         let r = run_at(card, g, v, j);
         page = page_of(card, g, v, page, r);
-        set = set & page_held(card, page, r);
+        set &= page_held(card, page.at, r.start, r.sectors);
         sectors += r.sectors;
         own = card_order::step(own, r);
-        j += 1;
     }
     Tally { set, sectors, own }
+}
+
+// Whether two runs do not meet: one ends where the other starts, or before.
+#[tactic(auto, unfolding(card::specs::Tally::parted))]
+fn parted(r: Run, q: Run) -> bool
+    requires { (r.start.0 + r.sectors ≤ 65536) × (q.start.0 + q.sectors ≤ 65536) }
+    ensures { result ≡ parted r q }
+{
+    r.start.0 + r.sectors <= q.start.0 || q.start.0 + q.sectors <= r.start.0
 }
 
 // Whether a run meets none of those that the entries from i on show.
@@ -125,15 +121,12 @@ fn parted_from(card: &[u8], g: Geo, v: View, r: Run, i: usize) -> bool
     requires { LaidOut g card.now × ((r.start.0 + r.sectors ≤ g.s) × ((i ≤ 4 * g.d) × RunsOk g (table_in g v (sec card.now)) (entries_of g (sec card.now)))) }
     ensures { result ≡ every (parted_from (table_in g v (sec card.now)) r) (drop i (entries_of g (sec card.now))) }
 {
-    let end = r.start.0 + r.sectors;
-    let mut ok = true;
-    let mut j = i;
-    while j < 4 * (g.d as usize) {
-        let q = run_at(card, g, v, j);
-        ok = ok & ((end <= q.start.0) | (q.start.0 + q.sectors <= r.start.0));
-        j += 1;
+    for j in i..4 * (g.d as usize) {
+        if !parted(r, run_at(card, g, v, j)) {
+            return false;
+        }
     }
-    ok
+    true
 }
 
 // Whether no two shown runs meet, run by run. From the last entry down: the files of the entries before `rest` start at `low` or past it, so a run that ends
@@ -142,11 +135,9 @@ fn pairs_apart(card: &[u8], g: Geo, v: View) -> bool
     requires { LaidOut g card.now × RunsOk g (table_in g v (sec card.now)) (entries_of g (sec card.now)) }
     ensures { result ≡ pairwise (parted_in (table_in g v (sec card.now))) (entries_of g (sec card.now)) }
 {
-    let mut i = 4 * (g.d as usize);
-    let mut rest = i;
+    let mut rest = 4 * (g.d as usize);
     let mut low = g.s;
-    while 0 < i {
-        i -= 1;
+    for i in (0..4 * (g.d as usize)).rev() {
         let r = run_at(card, g, v, i);
         if r.sectors == 0 {
             continue;
@@ -171,19 +162,12 @@ fn runs_apart(card: &[u8], g: Geo, v: View, sectors: u32, own: Walk, order: &mut
     if own.sum == sectors {
         return true;
     }
-    let none = Walk {
-        end: Sector(0),
-        sum: 0,
-    };
-    let one = card_order::round(card, g, v, order, none);
+    let one = card_order::round(card, g, v, order, Walk::START);
     if one.sum == sectors {
         return true;
     }
     let two = card_order::round(card, g, v, order, one);
-    if two.sum == sectors {
-        return true;
-    }
-    pairs_apart(card, g, v)
+    two.sum == sectors || pairs_apart(card, g, v)
 }
 
 // Whether the pages that a view shows have set exactly the bits below F, from S up, and of the sectors of the shown files, each in one file; for
@@ -197,10 +181,8 @@ pub fn pages_ok(card: &[u8], g: Geo, v: View, scratch: &mut [u8; 128]) -> bool
     let low = held(card, g, v, Sector(0), first.0);
     let high = held(card, g, v, Sector(g.s), bits - g.s);
     let t = tally_of(card, g, v);
-    let set = t.set;
-    let sectors = t.sectors;
-    let apart = runs_apart(card, g, v, sectors, t.own, scratch);
+    let apart = runs_apart(card, g, v, t.sectors, t.own, scratch);
     let ones = bits - card_files::clear_in(card, g, v);
-    let count = fixed_bits(g, bits) + sectors;
-    low & high & set & apart & (ones == count)
+    let count = fixed_bits(g, bits) + t.sectors;
+    low && high && t.set && apart && ones == count
 }

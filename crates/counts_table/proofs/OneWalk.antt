@@ -3,7 +3,8 @@ use mathlib.Core.Path.{◌≡◌, refl, sym, ◌∙◌}
 use mathlib.Core.Bool.{Bool, true, false, ◌&&◌}
 use mathlib.Core.List.{List, [], ◌∷◌}
 use mathlib.Core.Logic.{⊎_elim}
-use Prim.Native.Nat.{ℕ, ◌+◌, ◌≤◌}
+use Prim.Native.Nat.{ℕ, ◌+◌, min, ◌≤◌, ◌<◌}
+use native.Mathlib.Decide.{dec_lt}
 use native.Mathlib.Omega.{arith}
 use borrow.Author.Tests.{eqb-true, le-leb}
 use lib.ListN.{length, drop, drop_of_length-le}
@@ -32,3 +33,14 @@ walk_end tab n c i r ok past l e j q inv = go ok inv
     go : (ok : Bool) → every word_max tab ≡ (ok && every word_max (drop i tab)) → ok ≡ every word_max tab
     go true inv = sym (inv ∙ rest)
     go false inv = sym inv
+
+-- what is dropped past the end makes no difference
+pub drop_min : (l : List ℕ) (a n : ℕ) {k : ℕ} → length l ≤ n → k ≡ min a n → drop k l ≡ drop a l
+drop_min l a n {k} h e = go (dec_lt n a)
+  where
+    go : Dec (n < a) → drop k l ≡ drop a l
+    go (yes q) =
+        let x : length l ≤ k = omega arith in
+        let y : length l ≤ a = omega arith in
+        rw (drop_of_length-le l x, drop_of_length-le l y)
+    go (no q) = let x : k ≡ a = omega arith in rw x

@@ -27,45 +27,30 @@ fn judged(g: Geo, c: CrashCount, past: bool) -> u32
     ensures { (result ≤ g_n g) × Judged (g_n g) c.0 past result }
 {
     let n = counts::crash_counts(g);
-    if !past {
-        return n;
-    }
-    if n <= c.0 {
-        return n;
-    }
-    c.0 + 1
+    if past && c.0 < n { c.0 + 1 } else { n }
 }
 
-// Whether every table word is at most 2,147,483,647; `past` says whether those past c are 0.
+// Whether every table word is at most 2,147,483,647; `past` says whether those past c are 0. It does not stop early, as `words::zeros`.
 pub fn table_max(card: &[u8], g: Geo, c: CrashCount, past: bool) -> bool
     requires { LaidOut g card.now × (past ≡ every is_zero (drop (c.0 + 1) (table_of g (sec card.now)))) }
     ensures { result ≡ every word_max (table_of g (sec card.now)) }
 {
-    let n = judged(g, c, past);
     let top = counts::top();
     let mut ok = true;
-    let mut i: u32 = 0;
-    while i < n {
-        ok = ok & (word_in(card, g, i) <= top.0);
-        i += 1;
+    for i in 0..judged(g, c, past) {
+        ok &= word_in(card, g, i) <= top.0;
     }
     ok
 }
 
-// Whether the table words past c are 0.
+// Whether the table words past c are 0. It does not stop early, as `words::zeros`.
 pub fn zero_past(card: &[u8], g: Geo, c: CrashCount) -> bool
     requires { LaidOut g card.now }
     ensures { result ≡ every is_zero (drop (c.0 + 1) (table_of g (sec card.now))) }
 {
-    let n = counts::crash_counts(g);
-    if n <= c.0 {
-        return true;
-    }
     let mut ok = true;
-    let mut i = c.0 + 1;
-    while i < n {
-        ok = ok & (word_in(card, g, i) == 0);
-        i += 1;
+    for i in c.0.saturating_add(1)..counts::crash_counts(g) {
+        ok &= word_in(card, g, i) == 0;
     }
     ok
 }
@@ -75,15 +60,15 @@ fn word_below(card: &[u8], g: Geo, c: CrashCount) -> bool
     requires { LaidOut g card.now }
     ensures { result ≡ (leb (g_n g) c.0 || ltb (get_or (table_of g (sec card.now)) c.0 0) max_tx) }
 {
-    let top = counts::top();
-    (counts::crash_counts(g) <= c.0) | (counts::table_word(card, g, c) < top.0)
+    counts::crash_counts(g) <= c.0 || counts::table_word(card, g, c) < counts::top().0
 }
 
 // Whether the table is sound under the crash count c.
+#[tactic(auto, unfolding(counts::specs::Stamps::table_ok))]
 pub fn table_ok(card: &[u8], g: Geo, c: CrashCount) -> bool
     requires { LaidOut g card.now }
     ensures { result ≡ table_ok g c.0 (table_of g (sec card.now)) }
 {
     let past = zero_past(card, g, c);
-    table_max(card, g, c, past) & past & word_below(card, g, c)
+    table_max(card, g, c, past) && past && word_below(card, g, c)
 }

@@ -13,23 +13,11 @@ or-true true b = refl
 or-true false true = refl
 or-true false false = refl
 
-or-false : (a b : Bool) → (a || b) ≡ (a || b || false)
-or-false true b = refl
-or-false false true = refl
-or-false false false = refl
-
 -- unlike names
 pub apart-unlike : (tp tc p q : List ℕ) (r : Bool) → r ≡ eq_list (name_of p) (name_of q) → not r ≡ true → true ≡ apart tp tc p q
 unfolding apart
 apart-unlike tp tc p q true e h = falsum h
 apart-unlike tp tc p q false e h = rw (← e) (or-true (gone tp tc p) (gone tp tc q))
-
--- one name: one of the two shows no file
-pub apart-like : (tp tc p q : List ℕ) (r : Bool) {x y : Bool} → r ≡ eq_list (name_of p) (name_of q) → not r ≡ false → x ≡ gone tp tc p → y ≡ gone tp tc q
-    → (x || y) ≡ apart tp tc p q
-unfolding apart
-apart-like tp tc p q true e h f g = rw (← e, f, g) (or-false (gone tp tc p) (gone tp tc q))
-apart-like tp tc p q false e h f g = falsum (sym h)
 
 -- an entry that shows no file stands apart from all
 pub gone-apart : (tp tc p : List ℕ) (l : List (List ℕ)) (r : Bool) → r ≡ gone tp tc p → r ≡ true → true ≡ every (apart tp tc p) l

@@ -1,5 +1,5 @@
 -- Where entry j stands in an image, read and written. Assumes nothing.
-use mathlib.Core.Path.{◌≡◌, refl, sym, ap, ap₂, ◌∙◌}
+use mathlib.Core.Path.{◌≡◌, refl, sym, ap, ◌∙◌}
 use mathlib.Core.Bool.{Bool}
 use mathlib.Core.List.{List, []}
 use Prim.Native.Nat.{ℕ, zero, suc, ◌+◌, ◌-◌, ◌*◌, ◌≤◌, ◌<◌}
@@ -64,10 +64,6 @@ module _ (g : Geo) (img : List ℕ) where
   pub entry-test : (j a : ℕ) (f : List ℕ → Bool) {r : Bool} → a ≡ place_of g j → j < 4 * g.d → r ≡ f (take (a + 128 - a) (drop a img))
       → r ≡ f (get_or (entries_of g (sec img)) j [])
   entry-test j a f q h e = e ∙ ap f (entry-part j a q h)
-
-  pub entry-test2 : (i j a b : ℕ) (f : List ℕ → List ℕ → Bool) {r : Bool} → a ≡ place_of g i → i < 4 * g.d → b ≡ place_of g j → j < 4 * g.d
-      → r ≡ f (take (a + 128 - a) (drop a img)) (take (b + 128 - b) (drop b img)) → r ≡ f (get_or (entries_of g (sec img)) i []) (get_or (entries_of g (sec img)) j [])
-  entry-test2 i j a b f p h q k e = e ∙ ap₂ f (entry-part i a p h) (entry-part j b q k)
 
 -- ---- writing an entry
 

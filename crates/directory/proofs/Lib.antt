@@ -3,3 +3,4 @@ pub mod SpotLaws
 pub mod NameLaws
 pub mod DirectoryLaws
 pub mod ApartLaws
+pub mod EntryRuns

@@ -1,11 +1,11 @@
 -- Marks of names: a name that is not marked is none of those that were marked. Assumes nothing.
 use mathlib.Core.Path.{◌≡◌, refl, sym, ◌∙◌}
-use mathlib.Core.Bool.{Bool, true, false, not, ◌||◌}
+use mathlib.Core.Bool.{Bool, true, false, ◌||◌}
 use mathlib.Core.List.{List, []}
 use Prim.Native.Nat.{ℕ, ◌+◌, ◌*◌, ◌/◌, ◌%◌, ◌≤◌, ◌<◌}
 use native.Mathlib.Decide.{ℕ_discrete}
 use native.Mathlib.Omega.{arith}
-use borrow.Author.Tests.{eqb-true, not-true, not-false}
+use borrow.Author.Tests.{eqb-true}
 use lib.Dec.{eqb}
 use lib.ListN.{length, drop, get_or, length-drop}
 use lib.Seq.{get_or-drop}
@@ -112,12 +112,12 @@ module _ (tp tc : List ℕ) (es : List (List ℕ)) where
 -- ---- from the last entry down
 
 module _ {A : Type 0} (f : A → A → Bool) (l : List A) (d : A) (i k : ℕ) (next : k ≡ i + 1) (h : i < length l) {r : Bool} (e : r ≡ every (f (get_or l i d)) (drop (i + 1) l)) where
-  pub down-go : not r ≡ false → pairwise f (drop k l) ≡ true → pairwise f (drop i l) ≡ true
-  down-go n p = pair-next f l i d h ∙ rw (← e, not-false r n, ← next) p
+  pub down-go : r ≡ true → pairwise f (drop k l) ≡ true → pairwise f (drop i l) ≡ true
+  down-go n p = pair-next f l i d h ∙ rw (← e, n, ← next) p
 
-  pub down-stop : not r ≡ true → false ≡ pairwise f l
+  pub down-stop : r ≡ false → false ≡ pairwise f l
   down-stop n = go (pairwise f l) refl
     where
       go : (c : Bool) → pairwise f l ≡ c → false ≡ c
       go false q = refl
-      go true q = sym (not-true r n) ∙ e ∙ (both _ _ (sym (pair-next f l i d h) ∙ pair-rest f i l q)).0
+      go true q = sym n ∙ e ∙ (both _ _ (sym (pair-next f l i d h) ∙ pair-rest f i l q)).0

@@ -1,10 +1,9 @@
 -- What an entry shows, from its state word alone. Assumes nothing.
 use mathlib.Core.Path.{◌≡◌, ◌∙◌}
-use mathlib.Core.Bool.{Bool, true, false, not, cond}
+use mathlib.Core.Bool.{Bool, true, false, cond}
 use mathlib.Core.List.{List}
 use Prim.Native.Nat.{ℕ}
 use native.Mathlib.Omega.{arith}
-use borrow.Author.Tests.{not-true, not-false}
 use lib.ListN.{length}
 use Rattle.words.specs.Lists.{is_zero}
 use Rattle.words.specs.Bytes.{word_at}
@@ -13,7 +12,6 @@ use Rattle.counts.specs.declared.Stamp.{Stamp}
 use Rattle.counts.specs.Stamps.{stamp_of, alive, showing}
 use Rattle.entries.specs.Entries.{version_of, new_of, old_of, shown_bytes, shown, is_absent}
 use Rattle.entries_rules.proofs.PassHere.{absent-state}
-use Rattle.directory.specs.Directory.{gone}
 
 -- the state word where the version stands
 pub none_here : (p : List ℕ) (live : Bool) {at n : ℕ} → length p ≡ 128 → at ≡ cond live 44 60 → n ≡ word_at p at → is_zero n ≡ is_absent (version_of (cond live (new_of p) (old_of p)))
@@ -25,12 +23,3 @@ none_here p false l e f = rw (f, e, absent-state (old_of p), word-part p 16 60 0
 pub none_in : (tab p : List ℕ) {s : Stamp} {live r : Bool} → s ≡ stamp_of p → live ≡ alive tab s → r ≡ is_absent (version_of (cond live (new_of p) (old_of p))) → r ≡ is_absent (shown tab p)
 unfolding shown shown_bytes showing
 none_in tab p e f h = h ∙ rw (f, e)
-
--- not in the first view, or by the second
-pub gone-not : (tp tc p : List ℕ) {r : Bool} → r ≡ is_absent (shown tp p) → not r ≡ true → false ≡ gone tp tc p
-unfolding gone
-gone-not tp tc p {r} e h = rw (← e, not-true r h)
-
-pub gone-second : (tp tc p : List ℕ) {r q : Bool} → r ≡ is_absent (shown tp p) → not r ≡ false → q ≡ is_absent (shown tc p) → q ≡ gone tp tc p
-unfolding gone
-gone-second tp tc p {r} e h f = rw (← e, not-false r h) f

@@ -18,51 +18,36 @@ pub fn entries_ok(card: &[u8], g: Geo, v: View, bound: CrashCount) -> bool
     requires { LaidOut g card.now }
     ensures { result ≡ every (entry_ok g bound.0 (table_in g v (sec card.now))) (entries_of g (sec card.now)) }
 {
-    let n = 4 * (g.d as usize);
-    let mut j = 0;
-    while j < n {
-        let at = directory::place_of(g, j);
-        let end = at + 128;
-        if !entries_rules::entry_ok(card, g, v, bound, &card[at..end]) {
-            return false;
-        }
-        j += 1;
-    }
-    true
+    directory::entries(card, g).all(|p| entries_rules::entry_ok(card, g, v, bound, p))
 }
 
 // Whether the version that an entry shows is absent: the new one if it is alive, the old one if not.
+#[tactic(auto, using(crate::proofs::Shows::none_here))]
 fn shows_none(live: bool, p: &[u8]) -> bool
     requires { length p.now ≡ 128 }
     ensures { result ≡ is_absent (version_of (cond live (new_of p.now) (old_of p.now))) }
 {
-    let at = entries_shown::new_or_old(live);
-    words::word_at(p, at) == 0
+    words::word_at(p, entries_shown::new_or_old(live)) == 0
 }
 
 // Whether an entry shows no file in either of two views.
+#[tactic(auto, using(crate::proofs::Shows::none_in), unfolding(directory::specs::Directory::gone))]
 pub fn is_gone(card: &[u8], g: Geo, v: View, w: View, p: &[u8]) -> bool
     requires { LaidOut g card.now × (length p.now ≡ 128) }
     ensures { result ≡ gone (table_in g v (sec card.now)) (table_in g w (sec card.now)) p.now }
 {
     let s = counts_stamps::stamp_of(p);
-    let one = shows_none(counts_stamps::alive(card, g, v, s), p);
-    if !one {
-        return false;
-    }
-    shows_none(counts_stamps::alive(card, g, w, s), p)
+    shows_none(counts_stamps::alive(card, g, v, s), p)
+        && shows_none(counts_stamps::alive(card, g, w, s), p)
 }
 
 // Whether two entries do not both show a file, in either view, under one name.
+#[tactic(auto, unfolding(directory::specs::Directory::apart))]
 fn apart(card: &[u8], g: Geo, v: View, w: View, p: &[u8], q: &[u8]) -> bool
     requires { LaidOut g card.now × (length p.now ≡ 128) × (length q.now ≡ 128) }
     ensures { result ≡ apart (table_in g v (sec card.now)) (table_in g w (sec card.now)) p.now q.now }
 {
-    let like = entries_names::same_name(p, q);
-    if !like {
-        return true;
-    }
-    is_gone(card, g, v, w, p) | is_gone(card, g, v, w, q)
+    !entries_names::same_name(p, q) || is_gone(card, g, v, w, p) || is_gone(card, g, v, w, q)
 }
 
 // Whether entry i stands apart from each later one.
@@ -70,19 +55,8 @@ fn apart_from(card: &[u8], g: Geo, v: View, w: View, i: usize) -> bool
     requires { LaidOut g card.now × (i < 4 * g.d) }
     ensures { result ≡ every (apart (table_in g v (sec card.now)) (table_in g w (sec card.now)) (get_or (entries_of g (sec card.now)) i [])) (drop (i + 1) (entries_of g (sec card.now))) }
 {
-    let n = 4 * (g.d as usize);
-    let from = directory::place_of(g, i);
-    let to = from + 128;
-    let mut j = i + 1;
-    while j < n {
-        let at = directory::place_of(g, j);
-        let end = at + 128;
-        if !apart(card, g, v, w, &card[from..to], &card[at..end]) {
-            return false;
-        }
-        j += 1;
-    }
-    true
+    let p = directory::entry(card, g, i);
+    (i + 1..4 * (g.d as usize)).all(|j| apart(card, g, v, w, p, directory::entry(card, g, j)))
 }
 
 // Sets mark n. Whether it was clear.
@@ -91,8 +65,8 @@ fn mark(marks: &mut [u8], n: usize) -> bool
     ensures { (result ≡ eqb (bit_at marks.old n) 0) × (marks.new ≡ put_bit marks.old n 1) }
 {
     let was = apages::bit(marks, n);
-    apages::put_bit(marks, n, 1);
-    was == 0
+    apages::put_bit(marks, n, true);
+    !was
 }
 
 // Sets the marks of an entry's name. True only if no entry of that name had them set.
@@ -111,17 +85,8 @@ fn alone(card: &[u8], g: Geo, v: View, w: View, marks: &mut [u8], i: usize) -> b
     requires { LaidOut g card.now × ((i < 4 * g.d) × ((length marks.old ≡ 128) × Known (table_in g v (sec card.now)) (table_in g w (sec card.now)) (entries_of g (sec card.now)) (i + 1) marks.old)) }
     ensures { (result ≡ every (apart (table_in g v (sec card.now)) (table_in g w (sec card.now)) (get_or (entries_of g (sec card.now)) i [])) (drop (i + 1) (entries_of g (sec card.now)))) × Known (table_in g v (sec card.now)) (table_in g w (sec card.now)) (entries_of g (sec card.now)) i marks.new }
 {
-    let at = directory::place_of(g, i);
-    let end = at + 128;
-    let gone = is_gone(card, g, v, w, &card[at..end]);
-    if gone {
-        return true;
-    }
-    let new = mark_name(marks, &card[at..end]);
-    if new {
-        return true;
-    }
-    apart_from(card, g, v, w, i)
+    let p = directory::entry(card, g, i);
+    is_gone(card, g, v, w, p) || mark_name(marks, p) || apart_from(card, g, v, w, i)
 }
 
 // Whether no name is shown, in either view, by two entries. From the last entry down, with marks of the names seen in the bytes that are lent.
@@ -129,10 +94,8 @@ pub fn names_ok(card: &[u8], g: Geo, v: View, w: View, marks: &mut [u8; 128]) ->
     requires { LaidOut g card.now }
     ensures { result ≡ pairwise (apart (table_in g v (sec card.now)) (table_in g w (sec card.now))) (entries_of g (sec card.now)) }
 {
-    words::clear(marks);
-    let mut i = 4 * (g.d as usize);
-    while 0 < i {
-        i -= 1;
+    marks.fill(0);
+    for i in (0..4 * (g.d as usize)).rev() {
         if !alone(card, g, v, w, marks, i) {
             return false;
         }

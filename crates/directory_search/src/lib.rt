@@ -9,52 +9,28 @@ ghost use Rattle.counts.specs.Inner.{LaidOut};
 ghost use Rattle.directory.specs.Directory.{entries_of, gone, named};
 
 use counts::{Geo, View};
-use words::Found;
 
 // Whether an entry shows, in either view, a file of that name. What it shows is looked up only if it has the name.
+#[tactic(auto, unfolding(directory::specs::Directory::named))]
 fn is_named(card: &[u8], g: Geo, v: View, w: View, name: &[u8], p: &[u8]) -> bool
     requires { LaidOut g card.now × (length p.now ≡ 128) }
     ensures { result ≡ named (table_in g v (sec card.now)) (table_in g w (sec card.now)) name.now p.now }
 {
-    let like = entries_names::has_name(name, p);
-    if !like {
-        return false;
-    }
-    !directory_rules::is_gone(card, g, v, w, p)
+    entries_names::has_name(name, p) && !directory_rules::is_gone(card, g, v, w, p)
 }
 
 // The first entry that shows, in either view, a file of that name.
-pub fn find_name(card: &[u8], g: Geo, v: View, w: View, name: &[u8]) -> Found
+pub fn find_name(card: &[u8], g: Geo, v: View, w: View, name: &[u8]) -> Option<usize>
     requires { LaidOut g card.now }
     ensures { result ≡ first_at (named (table_in g v (sec card.now)) (table_in g w (sec card.now)) name.now) 0 (entries_of g (sec card.now)) }
 {
-    let n = 4 * (g.d as usize);
-    let mut j = 0;
-    while j < n {
-        let at = directory::place_of(g, j);
-        let end = at + 128;
-        if is_named(card, g, v, w, name, &card[at..end]) {
-            return Found::At(j);
-        }
-        j += 1;
-    }
-    Found::Nowhere
+    directory::entries(card, g).position(|p| is_named(card, g, v, w, name, p))
 }
 
 // The first entry that shows no file in either view.
-pub fn find_free(card: &[u8], g: Geo, v: View, w: View) -> Found
+pub fn find_free(card: &[u8], g: Geo, v: View, w: View) -> Option<usize>
     requires { LaidOut g card.now }
     ensures { result ≡ first_at (gone (table_in g v (sec card.now)) (table_in g w (sec card.now))) 0 (entries_of g (sec card.now)) }
 {
-    let n = 4 * (g.d as usize);
-    let mut j = 0;
-    while j < n {
-        let at = directory::place_of(g, j);
-        let end = at + 128;
-        if directory_rules::is_gone(card, g, v, w, &card[at..end]) {
-            return Found::At(j);
-        }
-        j += 1;
-    }
-    Found::Nowhere
+    directory::entries(card, g).position(|p| directory_rules::is_gone(card, g, v, w, p))
 }

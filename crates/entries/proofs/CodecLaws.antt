@@ -1,12 +1,11 @@
 -- The codec of entries: what was written is read back. Assumes nothing.
-use mathlib.Core.Path.{◌≡◌, refl, ap, ◌∙◌}
-use mathlib.Core.List.{List, [], ◌∷◌, ◌++◌, append_assoc}
-use Prim.Native.Nat.{ℕ, zero, suc, ◌+◌, ◌-◌, ◌≤◌, ◌<◌, ◌^◌}
-use native.Mathlib.Nat.{not-suc-le-zero, le_of_suc-le-suc}
+use mathlib.Core.Path.{◌≡◌, refl, ◌∙◌}
+use mathlib.Core.List.{List, ◌++◌, append_assoc}
+use Prim.Native.Nat.{ℕ, ◌+◌, ◌≤◌, ◌<◌, ◌^◌}
 use native.Mathlib.Omega.{arith}
 use lib.ListN.{length, take, drop, replicate, length-append}
 use lib.Seq.{take_at, drop_at}
-use Rattle.words.specs.Lists.{over, splice, pad}
+use Rattle.words.specs.Lists.{splice}
 use Rattle.words.specs.Bytes.{word_at, word_bytes}
 use Rattle.words.proofs.SpliceLaws.{range_same}
 use Rattle.words.proofs.WordLaws.{word_bytes-length, join-bytes}
@@ -129,12 +128,3 @@ module _ (e : Entry) (f : FitEntry e) where
   -- an entry that was put is read back
   pub entry-put : (s : List ℕ) (at : ℕ) → at + 128 ≤ length s → entry_of (take 128 (drop at (splice s at (entry_bytes e)))) ≡ e
   entry-put s at h = rw (range_same s at 128 (entry_bytes e) (entry_bytes-length e f.name) h) entry-back
-
--- zeros with a shorter list written over them
-pub pad-over : (n : ℕ) (l : List ℕ) → length l ≤ n → splice (replicate n 0) 0 l ≡ pad n l
-unfolding splice over pad
-pad-over n [] h = let e : n - 0 ≡ n = omega arith in rw e
-pad-over zero (x ∷ l) h = absurd (not-suc-le-zero h)
-pad-over (suc n) (x ∷ l) h =
-    let e : suc n - suc (length l) ≡ n - length l = omega arith in
-    rw e (ap (λ (r : List ℕ). x ∷ r) (pad-over n l (le_of_suc-le-suc h)))

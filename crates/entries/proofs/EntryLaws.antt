@@ -1,21 +1,19 @@
 -- What an entry shows, its name, its name's test and its change, as code reads them. Assumes nothing.
 use mathlib.Core.Path.{◌≡◌, refl, ap, ◌∙◌}
-use mathlib.Core.Bool.{Bool, true, false, cond, ◌&&◌}
+use mathlib.Core.Bool.{Bool, true, false, cond}
 use mathlib.Core.List.{List}
 use Prim.Native.Nat.{ℕ, ◌+◌, ◌-◌, ◌≤◌, ◌<◌, min}
 use native.Mathlib.Decide.{dec_lt}
 use native.Mathlib.Omega.{arith}
-use borrow.Author.Tests.{le-leb, lt-leb}
 use lib.ListN.{length, take, drop, length-take, length-drop}
 use lib.Seq.{take-take, take_all}
-use Rattle.words.specs.Lists.{every, is_zero, eq_list}
 use Rattle.words.specs.Bytes.{word_at}
 use Rattle.counts.specs.declared.Stamp.{Stamp}
 use Rattle.counts.specs.declared.Standing.{Standing}
 use Rattle.counts.specs.Stamps.{stamp_of, alive, showing, standing}
 use Rattle.entries.specs.declared.Version.{Version}
 use Rattle.entries.specs.declared.Entry.{Entry}
-use Rattle.entries.specs.Entries.{new_of, old_of, shown_bytes, name_bytes, name_of, good_byte, name_ok, changed}
+use Rattle.entries.specs.Entries.{new_of, old_of, shown_bytes, name_bytes, name_of, changed}
 use Rattle.entries.specs.Inner.{changed_as}
 
 pub changed-as : (tab : List ℕ) (own : Stamp) (e : Entry) (name : List ℕ) (v : Version) {st : Standing} {r : Entry}
@@ -55,26 +53,3 @@ name-part p {a} h e = go (dec_lt (word_at p 8) 32)
         let n : a - 12 ≡ 32 = omega arith in
         let l : length (take 32 (drop 12 p)) ≤ word_at p 8 = simp length-take (omega arith) in
         rw (n, take_all (word_at p 8) (take 32 (drop 12 p)) l)
-
-pub same_here : (p q : List ℕ) {a b : ℕ} {r : Bool} → length p ≡ 128 → length q ≡ 128 → a ≡ 12 + min (word_at p 8) 32 → b ≡ 12 + min (word_at q 8) 32
-    → r ≡ eq_list (take (a - 12) (drop 12 p)) (take (b - 12) (drop 12 q)) → r ≡ eq_list (name_of p) (name_of q)
-same_here p q l m e f h = h ∙ rw (name-part p l e, name-part q m f)
-
-pub name-here : (n p : List ℕ) {b : ℕ} {r : Bool} → length p ≡ 128 → b ≡ 12 + min (word_at p 8) 32 → r ≡ eq_list n (take (b - 12) (drop 12 p)) → r ≡ eq_list n (name_of p)
-name-here n p l e h = h ∙ rw (name-part p l e)
-
--- a name's test, where its length is too small, too large or in range
-pub name-low : (n : ℕ) (b : List ℕ) → n < 1 → false ≡ name_ok n b
-unfolding name_ok
-name-low n b h = rw (lt-leb 1 n h)
-
-pub name-high : (n : ℕ) (b : List ℕ) → 1 ≤ n → 32 < n → false ≡ name_ok n b
-unfolding name_ok
-name-high n b l h = rw (le-leb 1 n l, lt-leb n 32 h)
-
-pub name-mid : (n : ℕ) (b : List ℕ) {x y : Bool} → 1 ≤ n → n ≤ 32 → x ≡ every good_byte (take (n - 0) (drop 0 b)) → y ≡ every is_zero (take (length b - n) (drop n b))
-    → (x && y) ≡ name_ok n b
-unfolding name_ok
-name-mid n b l h e f =
-    let z : n - 0 ≡ n = omega arith in
-    rw (le-leb 1 n l, le-leb n 32 h, e, f, z, rest_part b n)

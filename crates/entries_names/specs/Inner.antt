@@ -1,10 +1,6 @@
 -- What the contracts of inner functions cite besides the words of the papers: what such a function asks of its caller, and what it answers. Assumes nothing.
-use Rattle.std.specs.Prelude.{List, [], ◌∷◌, ℕ, ◌-◌, ◌*◌, ◌%◌, length, get_or}
+use Rattle.std.specs.Prelude.{List, [], ◌∷◌, ℕ, ◌*◌, ◌%◌}
 use Rattle.std.specs.Int.Bits.{bit_xor}
-
--- the last byte of a name; 0 if there is none
-unfoldable pub last_of : List ℕ → ℕ
-last_of n = get_or n (length n - 1) 0
 
 -- one byte more
 unfoldable pub hash_step : ℕ → ℕ → ℕ

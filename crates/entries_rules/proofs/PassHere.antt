@@ -1,9 +1,8 @@
 -- An entry's test, from the answers to its parts: what it shows, its name, its stamp, and its zero words. Assumes nothing.
-use mathlib.Core.Path.{◌≡◌, refl, sym, ap, ◌∙◌}
+use mathlib.Core.Path.{◌≡◌, refl, sym, ap}
 use mathlib.Core.Bool.{Bool, true, false, cond, ◌&&◌, ◌||◌}
 use mathlib.Core.List.{List}
 use Prim.Native.Nat.{ℕ, ◌+◌, ◌-◌}
-use borrow.Author.Tests.{eq-eqb, ne_eqb}
 use lib.Dec.{ltb}
 use lib.ListN.{length, take, drop}
 use Rattle.words.specs.Lists.{every, is_zero}
@@ -25,29 +24,15 @@ absent-state v = go (is_zero (word_at v 0)) _
     go true r = refl
     go false r = refl
 
-module _ (g : Geo) (v p : List ℕ) {state : ℕ} {version : Bool} (s : state ≡ word_at v 0) (e : version ≡ version_ok g v) where
-  abbrev Shown : Bool
-  Shown = version_ok g v && (is_absent (version_of v) || name_ok (word_at p 8) (name_bytes p))
-
-  pub ok-absent : state ≡ 0 → version ≡ Shown
-  ok-absent z = rw (absent-state v, eq-eqb (word_at v 0) 0 (sym s ∙ z), ← e) (all version)
-    where
-      all : (b : Bool) → b ≡ (b && true)
-      all true = refl
-      all false = refl
-
-  pub ok-present : (state ≡ 0 → ⊥) → {n : ℕ} {name : Bool} → n ≡ word_at p 8 → name ≡ name_ok n (take 32 (drop 12 p)) → (version && name) ≡ Shown
-  unfolding name_bytes
-  ok-present z f h = rw (absent-state v, ne_eqb (word_at v 0) 0 (λ q. z (s ∙ q)), e, h, f)
-
-pub entry_here : (g : Geo) (bound : ℕ) (tab p : List ℕ) {s : Stamp} {at : ℕ} {live stamp below rest whole : Bool} → s ≡ stamp_of p → live ≡ alive tab s → at ≡ cond live 44 60
-    → stamp ≡ stamp_ok g s → below ≡ (live || ltb s.cc.0 bound) → rest ≡ every is_zero (take (length p - 76) (drop 76 p))
-    → whole ≡ (version_ok g (take (at + 16 - at) (drop at p)) && (is_absent (version_of (take (at + 16 - at) (drop at p))) || name_ok (word_at p 8) (name_bytes p)))
-    → (stamp && (below && rest && whole)) ≡ entry_ok g bound tab p
+-- what is asked of an entry, by the place of the version that it shows
+pub entry_here : (g : Geo) (bound : ℕ) (tab p : List ℕ) {s : Stamp} {at : ℕ} {live : Bool} → s ≡ stamp_of p → live ≡ alive tab s → at ≡ cond live 44 60
+    → entry_ok g bound tab p
+    ≡ (stamp_ok g s && ((live || ltb s.cc.0 bound) && every is_zero (take (length p - 76) (drop 76 p))
+    && (version_ok g (take (at + 16 - at) (drop at p)) && (is_absent (version_of (take (at + 16 - at) (drop at p))) || name_ok (word_at p 8) (name_bytes p)))))
 unfolding entry_ok entry_rest dead_below shown
-entry_here g bound tab p {s} {at} {live} {stamp} {below} {rest} {whole} e₀ e₁ e₂ e₃ e₄ e₅ e₆ =
+entry_here g bound tab p {s} {at} {live} e₀ e₁ e₂ =
     let v : take (at + 16 - at) (drop at p) ≡ shown_bytes tab p = shown-here tab p e₀ e₁ e₂ in
-    rw (e₃, e₄, e₅, e₆, e₁, e₀, v, rest_part p 76) (ap (λ (b : Bool). stamp_ok g (stamp_of p) && b) (four (dead_below bound tab (stamp_of p)) (every is_zero (drop 76 p)) (version_ok g (shown_bytes tab p)) (is_absent (shown tab p) || name_ok (word_at p 8) (name_bytes p))))
+    rw (e₁, e₀, v, rest_part p 76) (ap (λ (b : Bool). stamp_ok g (stamp_of p) && b) (sym (four (dead_below bound tab (stamp_of p)) (every is_zero (drop 76 p)) (version_ok g (shown_bytes tab p)) (is_absent (shown tab p) || name_ok (word_at p 8) (name_bytes p)))))
   where
     four : (a b c d : Bool) → (a && b && (c && d)) ≡ (a && b && c && d)
     four true true true d = refl

@@ -15,58 +15,55 @@ use sectors::Sector;
 // ---- well formed
 
 // How many sectors some bytes take.
+#[tactic(auto, unfolding(entries::specs::Entries::sectors_for))]
 fn sectors_for(bytes: u32) -> u32
     ensures { result ≡ sectors_for bytes }
 {
-    ((bytes as u64 + 511) / 512) as u32
+    bytes.div_ceil(512)
 }
 
 // Whether a run is as long as its bytes want, and lies inside the data and one page.
+#[tactic(auto, unfolding(entries::specs::Entries::run_ok, entries::specs::Entries::pieces_of, entries::specs::Entries::piece_ok, words::specs::Lists::every))]
 fn run_ok(g: Geo, r: Run) -> bool
     requires { InLimits g }
     ensures { result ≡ run_ok g r }
 {
     let whole = r.sectors == sectors_for(r.bytes);
     if r.sectors == 0 {
-        return whole & (r.start.0 == 0);
+        return whole && r.start == Sector(0);
     }
-    let first = counts::data_first(g);
-    let end = r.start.0 as u64 + r.sectors as u64;
-    let page = (r.start.0 % 4096) as u64 + r.sectors as u64;
-    whole & ((first.0 <= r.start.0) & (end <= g.s as u64) & (page <= 4096))
+    let end = u64::from(r.start.0) + u64::from(r.sectors);
+    let page = u64::from(r.start.0 % 4096) + u64::from(r.sectors);
+    whole && counts::data_first(g) <= r.start && end <= u64::from(g.s) && page <= 4096
 }
 
 // Whether the 16 bytes of a version are well formed.
+#[tactic(auto, unfolding(entries::specs::Entries::version_ok))]
 fn version_ok(g: Geo, v: &[u8]) -> bool
     requires { InLimits g × (length v.now ≡ 16) }
     ensures { result ≡ version_ok g v.now }
 {
-    let state = words::word_at(v, 0);
-    let start = words::word_at(v, 4);
-    let sectors = words::word_at(v, 8);
-    let bytes = words::word_at(v, 12);
-    if state == 0 {
-        return (start == 0) & (sectors == 0) & (bytes == 0);
-    }
     let run = Run {
-        start: Sector(start),
-        sectors,
-        bytes,
+        start: Sector(words::word_at(v, 4)),
+        sectors: words::word_at(v, 8),
+        bytes: words::word_at(v, 12),
     };
-    (state == 1) & run_ok(g, run)
+    match words::word_at(v, 0) {
+        0 => run.start == Sector(0) && run.sectors == 0 && run.bytes == 0,
+        1 => run_ok(g, run),
+        _ => false,
+    }
 }
 
 // Whether the version that an entry shows, its 16 bytes, is well formed, and the name too if it is present.
+#[tactic(auto, unfolding(entries::specs::Entries::name_bytes))]
 fn shown_ok(g: Geo, v: &[u8], p: &[u8]) -> bool
     requires { InLimits g × ((length v.now ≡ 16) × (length p.now ≡ 128)) }
     ensures { result ≡ (version_ok g v.now && (is_absent (version_of v.now) || name_ok (word_at p.now 8) (name_bytes p.now))) }
 {
-    let version = version_ok(g, v);
-    let state = words::word_at(v, 0);
-    if state == 0 {
-        return version;
-    }
-    version & entries_names::name_ok(words::word_at(p, 8), &p[12..44])
+    version_ok(g, v)
+        && (entries::is_absent(entries::version_of(v))
+            || entries_names::name_ok(words::word_at(p, 8), &p[12..44]))
 }
 
 // Whether an entry passes in a view. Whether it is alive is looked up once.
@@ -77,9 +74,8 @@ pub fn entry_ok(card: &[u8], g: Geo, v: View, bound: CrashCount, p: &[u8]) -> bo
     let s = counts_stamps::stamp_of(p);
     let live = counts_stamps::alive(card, g, v, s);
     let at = entries_shown::new_or_old(live);
-    let end = at + 16;
-    let stamp = counts_stamps::stamp_ok(g, s);
-    let below = counts_stamps::below(live, bound, s);
-    let rest = words::zeros(&p[76..]);
-    stamp & (below & rest & shown_ok(g, &p[at..end], p))
+    counts_stamps::stamp_ok(g, s)
+        && counts_stamps::below(live, bound, s)
+        && words::zeros(&p[76..])
+        && shown_ok(g, &p[at..at + 16], p)
 }

@@ -11,21 +11,17 @@ use counts::{Geo, View};
 use entries::{Entry, Version, name_at, version_of};
 
 // The entry that 128 bytes are.
+#[tactic(auto, unfolding(entries::specs::Entries::entry_of, entries::specs::Entries::name_bytes, entries::specs::Entries::new_of, entries::specs::Entries::old_of))]
 fn entry_of(p: &[u8]) -> Entry
     requires { length p.now ≡ 128 }
     ensures { result ≡ entry_of p.now }
 {
-    let stamp = counts_stamps::stamp_of(p);
-    let size = words::word_at(p, 8);
-    let name = name_at(p, 12);
-    let new = version_of(&p[44..60]);
-    let old = version_of(&p[60..76]);
     Entry {
-        stamp,
-        size,
-        name,
-        new,
-        old,
+        stamp: counts_stamps::stamp_of(p),
+        size: words::word_at(p, 8),
+        name: name_at(p, 12),
+        new: version_of(&p[44..60]),
+        old: version_of(&p[60..76]),
     }
 }
 
@@ -34,8 +30,7 @@ pub fn entry_at(s: &[u8], at: usize) -> Entry
     requires { at + 128 ≤ length s.now }
     ensures { result ≡ entry_of (take 128 (drop at s.now)) }
 {
-    let end = at + 128;
-    entry_of(&s[at..end])
+    entry_of(&s[at..at + 128])
 }
 
 // Where the version that an entry shows stands in it: the new one or the old one.
@@ -50,8 +45,7 @@ pub fn shown(card: &[u8], g: Geo, v: View, p: &[u8]) -> Version
     requires { LaidOut g card.now × (length p.now ≡ 128) }
     ensures { result ≡ shown (table_in g v (sec card.now)) p.now }
 {
-    let s = counts_stamps::stamp_of(p);
-    let at = new_or_old(counts_stamps::alive(card, g, v, s));
-    let end = at + 16;
-    version_of(&p[at..end])
+    let live = counts_stamps::alive(card, g, v, counts_stamps::stamp_of(p));
+    let at = new_or_old(live);
+    version_of(&p[at..at + 16])
 }

@@ -1,4 +1,5 @@
 -- After mount, sync and unmount the bytes hold the session that the call gives. Assumes nothing.
+use Rattle.std.specs.Prelude.{Some, None}
 use mathlib.Core.Path.{◌≡◌, refl, ap, ◌∙◌}
 use mathlib.Core.Bool.{Bool, true, false}
 use mathlib.Core.List.{List}
@@ -16,8 +17,7 @@ use Rattle.card.proofs.PlanLaws.{ahead!, guard-num, passing}
 use Rattle.card.specs.Sound.{sound}
 use Rattle.card.proofs.SoundLaws.{shape-inv, sound-inv}
 use Rattle.session.specs.declared.Opened.{Opened}
-use Rattle.session.specs.declared.Session.{Session}
-use Rattle.session.specs.declared.Session.TheVariants.{Closed, Open}
+use Rattle.session.specs.Session.{Session}
 use Rattle.session.proofs.FitLaws.{Fit}
 use Rattle.store.specs.Mount.{Ended, mount_plan, opened_from, mount_done, mount}
 use Rattle.store.specs.Steps.{at_top}
@@ -72,8 +72,8 @@ grown-words s work false F = small (grown false s) F.shape F.count (omega (arith
 
 sync-over : (z : Session) (b card work : List ℕ) → decoded b ≡ z → decoded (kept (sync z card work) b) ≡ (sync z card work).session
 unfolding sync sync_done refused done
-sync-over Closed b card work h = ap decoded (kept-refused _ b (λ e. absurd (omega arith))) ∙ h
-sync-over (Open s) b card work h =
+sync-over None b card work h = ap decoded (kept-refused _ b (λ e. absurd (omega arith))) ∙ h
+sync-over (Some s) b card work h =
     passing (λ (r : Ended). decoded (kept r b) ≡ r.session) _ _ (both-num s card work (guard-num 8 _ ahead!)) (λ k. ap decoded (kept-refused _ b (λ e. absurd (omega arith))) ∙ h)
     (λ j a e. ap decoded (kept-done _ b refl) ∙ opened-back (grown (at_top s) s) (grown-words s work (at_top s) (sync-live s card work e).0))
 
@@ -83,8 +83,8 @@ sync-crosses b card work = sync-over (decoded b) b card work refl
 
 unmount-over : (z : Session) (b card work : List ℕ) → decoded b ≡ z → decoded (kept (unmount z card work) b) ≡ (unmount z card work).session
 unfolding unmount unmount_done refused done
-unmount-over Closed b card work h = ap decoded (kept-refused _ b (λ e. absurd (omega arith))) ∙ h
-unmount-over (Open s) b card work h =
+unmount-over None b card work h = ap decoded (kept-refused _ b (λ e. absurd (omega arith))) ∙ h
+unmount-over (Some s) b card work h =
     passing (λ (r : Ended). decoded (kept r b) ≡ r.session) _ _ (both-num s card work ahead!) (λ k. ap decoded (kept-refused _ b (λ e. absurd (omega arith))) ∙ h)
     (λ j a e. ap decoded (kept-done _ b refl) ∙ closed-back)
 

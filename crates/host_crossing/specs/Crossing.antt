@@ -1,13 +1,12 @@
 -- What crosses to a host: a session as 24 bytes, a report as 16. Assumes nothing.
-use Rattle.std.specs.Prelude.{◌≡◌, Bool, false, cond, List, ◌++◌, ℕ, eqb, ltb, replicate}
+use Rattle.std.specs.Prelude.{◌≡◌, Bool, false, cond, List, ◌++◌, ℕ, eqb, ltb, replicate, Some, None}
 use Rattle.words.specs.Bytes.{word_at, word_bytes}
 use Rattle.counts.specs.declared.Geo.{Geo}
 use Rattle.card.specs.declared.Answer.{Answer}
-use Rattle.card.specs.declared.Report.{Report}
+use Rattle.card.specs.Plan.{Report}
 use Rattle.session.specs.declared.Opened.{Opened}
-use Rattle.session.specs.declared.Session.{Session}
-use Rattle.session.specs.declared.Session.TheVariants.{Closed, Open}
-use Rattle.store.specs.declared.Room.{Room}
+use Rattle.session.specs.Session.{Session}
+use Rattle.store.specs.Given.{Room}
 use Rattle.store.specs.Mount.{Ended}
 
 -- "S sectors, ..; T table sectors, ..; D directory sectors", as three numbers
@@ -22,7 +21,7 @@ opened_of state g c t =
 
 -- state 0 is the closed session whatever follows: "all closed sessions are one value"
 unfoldable pub session_of : ℕ → Geo → ℕ → ℕ → Session
-session_of state g c t = cond (eqb state 0) Closed (Open (opened_of state g c t))
+session_of state g c t = cond (eqb state 0) None (Some (opened_of state g c t))
 
 -- the session that bytes hold: "Words are 32 bits, least byte first", in the order state, S, T, D, c, t
 unfoldable pub decoded : List ℕ → Session
@@ -39,8 +38,8 @@ opened_bytes o =
 
 -- the bytes of a session; the closed one is 24 zeros
 unfoldable pub encoded : Session → List ℕ
-encoded Closed = replicate 24 0
-encoded (Open o) = opened_bytes o
+encoded None = replicate 24 0
+encoded (Some o) = opened_bytes o
 
 -- "it gives C, N, the file count and the clear bits shown", as four words
 unfoldable pub report_bytes : Report → List ℕ

@@ -1,144 +1,139 @@
 // What crosses to a host: a session as 24 bytes, what reading a card gives as 16, and what free gives as 8.
 #![tactic(auto)]
 
-ghost use Rattle.std.specs.Prelude.{◌≡◌};
-ghost use Rattle.host_crossing.specs.Crossing.{opened_of, session_of, decoded, state_of, opened_bytes, encoded, report_bytes, room_bytes, roomed, kept_by};
+ghost use Rattle.std.specs.Prelude.{◌≡◌, ◌*◌, length};
+ghost use Rattle.std.specs.List.{flat_map};
+ghost use Rattle.words.specs.Bytes.{word_bytes};
+ghost use Rattle.card.specs.Answers.{reported_of};
+ghost use Rattle.store.specs.Given.{synced_of, unmounted_of, room_of};
+ghost use Rattle.host_crossing.specs.Crossing.{opened_of, decoded, state_of, opened_bytes, encoded, report_bytes, room_bytes, roomed, kept_by};
 
-use card::{Answer, Report};
+use card::{Answer, Contents, Refusal};
 use counts::{CrashCount, Geo, TxCount};
 use session::{Opened, Session};
-use store::{Outcome, Room};
+use store::{Figures, Synced};
+use words::word_at;
+
+// ---- a session
 
 // An open session; one with a state above 2 never fits.
+#[tactic(auto, unfolding(crate::specs::Crossing::opened_of))]
 fn opened_of(state: u32, geo: Geo, c: CrashCount, t: TxCount) -> Opened
     ensures { result ≡ opened_of state geo c.0 t.0 }
 {
-    if 2 < state {
-        return Opened {
-            geo,
-            c,
-            t: TxCount(0),
-            worn: false,
-        };
-    }
     Opened {
         geo,
         c,
-        t,
+        t: if 2 < state { TxCount(0) } else { t },
         worn: state == 2,
     }
 }
 
-// The session of six words.
-fn session_of(state: u32, geo: Geo, c: CrashCount, t: TxCount) -> Session
-    ensures { result ≡ session_of state geo c.0 t.0 }
-{
-    if state == 0 {
-        return Session::Closed;
-    }
-    let s = opened_of(state, geo, c, t);
-    Session::Open(s)
-}
-
-// The session that 24 bytes hold.
-pub fn decoded(b: [u8; 24]) -> Session
-    ensures { result ≡ decoded b }
-{
-    let state = words::word_at(&b, 0);
-    let s = words::word_at(&b, 4);
-    let t = words::word_at(&b, 8);
-    let d = words::word_at(&b, 12);
-    let c = words::word_at(&b, 16);
-    let tx = words::word_at(&b, 20);
-    let geo = Geo { s, t, d };
-    session_of(state, geo, CrashCount(c), TxCount(tx))
-}
-
-// The session that a host's 24 bytes hold.
+// The session that a host's 24 bytes hold, six words.
+#[tactic(auto, unfolding(crate::specs::Crossing::decoded, crate::specs::Crossing::session_of))]
 pub fn session_at(b: &[u8; 24]) -> Session
     ensures { result ≡ decoded b.now }
 {
-    let bytes = *b;
-    decoded(bytes)
+    let state = word_at(b, 0);
+    if state == 0 {
+        return None;
+    }
+    let geo = Geo {
+        s: word_at(b, 4),
+        t: word_at(b, 8),
+        d: word_at(b, 12),
+    };
+    Some(opened_of(
+        state,
+        geo,
+        CrashCount(word_at(b, 16)),
+        TxCount(word_at(b, 20)),
+    ))
+}
+
+// The bytes of words, one after another.
+fn bytes_of<const N: usize>(words: &[u32]) -> [u8; N]
+    requires { N ≡ 4 * length words.now }
+    ensures { result ≡ flat_map word_bytes words.now }
+{
+    let mut b = [0; N];
+    for (i, word) in words.iter().enumerate() {
+        words::put_word(&mut b, 4 * i, *word);
+    }
+    b
 }
 
 // 2 where the session is worn, else 1.
+#[tactic(auto, unfolding(crate::specs::Crossing::state_of))]
 fn state_of(worn: bool) -> u32
     ensures { result ≡ state_of worn }
 {
-    if worn {
-        return 2;
-    }
-    1
+    if worn { 2 } else { 1 }
 }
 
 // The 24 bytes of an open session.
+#[tactic(auto, unfolding(crate::specs::Crossing::opened_bytes, words::specs::Bytes::word_bytes))]
 fn opened_bytes(o: Opened) -> [u8; 24]
     ensures { result ≡ opened_bytes o }
 {
-    let state = state_of(o.worn);
-    let mut b = [0u8; 24];
-    words::put_word(&mut b, 0, state);
-    words::put_word(&mut b, 4, o.geo.s);
-    words::put_word(&mut b, 8, o.geo.t);
-    words::put_word(&mut b, 12, o.geo.d);
-    words::put_word(&mut b, 16, o.c.0);
-    words::put_word(&mut b, 20, o.t.0);
-    b
+    bytes_of(&[state_of(o.worn), o.geo.s, o.geo.t, o.geo.d, o.c.0, o.t.0])
 }
 
 // The 24 bytes of a session.
+#[tactic(auto, unfolding(crate::specs::Crossing::encoded))]
 pub fn encoded(session: Session) -> [u8; 24]
     ensures { result ≡ encoded session }
 {
-    let Session::Open(o) = session else {
-        return [0u8; 24];
-    };
-    opened_bytes(o)
+    session.map_or([0; 24], opened_bytes)
 }
 
-// The 16 bytes of a report.
-pub fn report_bytes(r: Report) -> [u8; 16]
-    ensures { result ≡ report_bytes r }
+// ---- what a call gives
+
+// The 16 bytes of what reading a card gives.
+#[tactic(auto, unfolding(crate::specs::Crossing::report_bytes, words::specs::Bytes::word_bytes))]
+pub fn report_bytes(x: Contents) -> [u8; 16]
+    ensures { result ≡ report_bytes (reported_of (Ok x)) }
 {
-    let mut b = [0u8; 16];
-    words::put_word(&mut b, 0, r.c.0);
-    words::put_word(&mut b, 4, r.n);
-    words::put_word(&mut b, 8, r.files);
-    words::put_word(&mut b, 12, r.free);
-    b
+    bytes_of(&[x.c.0, x.n, x.files, x.free])
 }
 
 // The 8 bytes of free's two figures.
-fn room_bytes(r: Room) -> [u8; 8]
-    ensures { result ≡ room_bytes r }
+#[tactic(auto, unfolding(crate::specs::Crossing::room_bytes, words::specs::Bytes::word_bytes))]
+fn room_bytes(f: Figures) -> [u8; 8]
+    ensures { result ≡ room_bytes (room_of (Ok f)) }
 {
-    let mut b = [0u8; 8];
-    words::put_word(&mut b, 0, r.free);
-    words::put_word(&mut b, 4, r.waiting);
-    b
+    bytes_of(&[f.free, f.waiting])
 }
 
 // Free's figures go to the host's bytes; a refusal leaves them as lent.
-pub fn give_room(r: Room, out: &mut [u8; 8]) -> u32
-    ensures { (result ≡ r.number) × (out.new ≡ roomed r out.old) }
+#[tactic(auto, unfolding(crate::specs::Crossing::roomed))]
+pub fn give_room(r: Result<Figures, Refusal>, out: &mut [u8; 8]) -> u32
+    ensures { (result ≡ (room_of r).number) × (out.new ≡ roomed (room_of r) out.old) }
 {
-    if r.number != 0 {
-        return r.number;
+    if let Ok(figures) = r {
+        *out = room_bytes(figures);
     }
-    *out = room_bytes(r);
-    r.number
+    card::number(r)
 }
 
-// The session that a call gives goes to the host's bytes; a refusal leaves them as lent.
-pub fn keep(o: Outcome, session: &mut [u8; 24]) -> Answer
-    ensures { (result ≡ o.answer) × (session.new ≡ kept_by o.answer o.session session.old) }
+// The session that sync gives goes to the host's bytes; a refusal leaves them as lent.
+#[tactic(auto, unfolding(crate::specs::Crossing::kept_by, card::specs::Plan::done, card::specs::Plan::refused))]
+pub fn keep(r: Result<Synced, Refusal>, session: &mut [u8; 24]) -> Answer
+    ensures { (result ≡ (synced_of (decoded session.old) r).answer) × (session.new ≡ kept_by (synced_of (decoded session.old) r).answer (synced_of (decoded session.old) r).session session.old) }
 {
-    let answer = o.answer;
-    if o.answer.number != 0 {
-        return answer;
+    if let Ok(synced) = r {
+        *session = encoded(Some(synced.session));
     }
-    let next = o.session;
-    *session = encoded(next);
-    answer
+    Answer::from(r.map(|synced| synced.written))
+}
+
+// The closed session of an unmount goes to the host's bytes; a refusal leaves them as lent.
+#[tactic(auto, unfolding(crate::specs::Crossing::kept_by, card::specs::Plan::done, card::specs::Plan::refused))]
+pub fn close(r: Result<u32, Refusal>, session: &mut [u8; 24]) -> Answer
+    ensures { (result ≡ (unmounted_of (decoded session.old) r).answer) × (session.new ≡ kept_by (unmounted_of (decoded session.old) r).answer (unmounted_of (decoded session.old) r).session session.old) }
+{
+    if r.is_ok() {
+        *session = encoded(None);
+    }
+    Answer::from(r)
 }

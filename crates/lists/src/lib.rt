@@ -17,13 +17,12 @@ use store_listing::{list, read_list};
 pub fn store_read_list(card: &[u8], lines: &mut [Line]) -> Answer
     ensures { (result ≡ (read_list card.now lines.old).answer) × (lines.new ≡ (read_list card.now lines.old).lines) }
 {
-    read_list(card, lines)
+    Answer::from(read_list(card, lines))
 }
 
 // list for a host.
 pub fn store_list(session: &[u8; 24], work: &[u8], lines: &mut [Line]) -> Answer
     ensures { (result ≡ (list (decoded session.now) work.now lines.old).answer) × (lines.new ≡ (list (decoded session.now) work.now lines.old).lines) }
 {
-    let s = session_at(session);
-    list(s, work, lines)
+    Answer::from(list(session_at(session), work, lines))
 }

@@ -1,8 +1,8 @@
 -- Everything that is promised, proved: one theorem, made of those of the parts. Assumes nothing.
+use Rattle.std.specs.Prelude.{Some, None}
 use mathlib.Core.List.{List}
 use Prim.Native.Nat.{ℕ}
-use Rattle.session.specs.declared.Session.{Session}
-use Rattle.session.specs.declared.Session.TheVariants.{Closed, Open}
+use Rattle.session.specs.Session.{Session}
 use Rattle.session.proofs.FitMeansProved.{fits-mean}
 use Rattle.store.specs.Inner.{FitOf}
 use Rattle.promises_answers.proofs.RowLaws.{gives_one}
@@ -38,8 +38,8 @@ use Rattle.promises.specs.Promises.{Promises}
 
 -- the test of a fit, as its clauses
 fits-say : (o : Session) (work : List ℕ) → FitOf o work → FitsIn o work
-fits-say Closed work f = tt
-fits-say (Open s) work f = (fits-mean s work).0 f
+fits-say None work f = tt
+fits-say (Some s) work f = (fits-mean s work).0 f
 
 pub promises : Promises
 promises =

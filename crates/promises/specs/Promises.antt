@@ -1,12 +1,11 @@
 -- What is promised, in one place: each field is one statement, and the file that has its words is named where it is brought in below. `promises` (PromisesProved)
 -- proves the record. Demand 1's equations stand in the contracts themselves: `contracts` (promises_tight/TightProved). Assumes nothing.
-use Rattle.std.specs.Prelude.{◌≡◌, false, List, [], ◌∷◌, ℕ, ◌+◌, length, take}
+use Rattle.std.specs.Prelude.{◌≡◌, false, List, [], ◌∷◌, ℕ, ◌+◌, length, take, Some}
 use Rattle.sectors.specs.declared.Sector.{Sector}
 use Rattle.sectors.specs.Sectors.{Step, apply_steps}
 use Rattle.entries.specs.declared.Version.TheVariants.{Absent, Present}
 use Rattle.card.specs.Plan.{do_it}
 use Rattle.session.specs.declared.Opened.{Opened}
-use Rattle.session.specs.declared.Session.TheVariants.{Open}
 use Rattle.store.specs.Steps.{mount_steps, sync_steps, unmount_steps}
 use Rattle.store.specs.Edit.{put_plan, put_run, put_at, remove_plan, remove}
 use Rattle.store.specs.Look.{free}
@@ -56,10 +55,10 @@ pub record Promises : Type 1 where
   -- ---- the bytes: which entry and run put and remove take, what each call leaves, and what is counted
   pub put_places : PutPlaces
   pub remove_places : RemovePlaces
-  pub put_leaves : (s : Opened) (work n d : List ℕ) (goal : ℕ) → (put_at (Open s) work n d goal).answer.number ≡ 0
-      → (j : ℕ) × (a : Sector) × (put_plan s work n d goal ≡ do_it j a) × Untouched s j (Present (put_run a d)) work n d (put_at (Open s) work n d goal).image
-  pub remove_leaves : (s : Opened) (work n : List ℕ) → (remove (Open s) work n).answer.number ≡ 0
-      → (j : ℕ) × (a : Sector) × (remove_plan s work n ≡ do_it j a) × Untouched s j Absent work n [] (remove (Open s) work n).image
+  pub put_leaves : (s : Opened) (work n d : List ℕ) (goal : ℕ) → (put_at (Some s) work n d goal).answer.number ≡ 0
+      → (j : ℕ) × (a : Sector) × (put_plan s work n d goal ≡ do_it j a) × Untouched s j (Present (put_run a d)) work n d (put_at (Some s) work n d goal).image
+  pub remove_leaves : (s : Opened) (work n : List ℕ) → (remove (Some s) work n).answer.number ≡ 0
+      → (j : ℕ) × (a : Sector) × (remove_plan s work n ≡ do_it j a) × Untouched s j Absent work n [] (remove (Some s) work n).image
   pub put_pairs : PutPairs
   pub remove_pairs : RemovePairs
   pub mount_leaves : MountChanges

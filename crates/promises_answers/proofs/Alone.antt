@@ -1,4 +1,5 @@
 -- Besides the entry that a call works on, none shows its name; and the plain list with that name left out. Assumes nothing.
+use Rattle.std.specs.Prelude.{Option, Some, None}
 use mathlib.Core.Path.{◌≡◌, refl, sym, ap, ◌∙◌}
 use mathlib.Core.Bool.{Bool, true, false, not, cond}
 use mathlib.Core.List.{List, [], ◌∷◌, ◌++◌}
@@ -8,8 +9,6 @@ use native.Mathlib.Omega.{arith}
 use borrow.Author.Tests.{not-true}
 use lib.ListN.{length, take, drop, get_or, length-take, length-drop}
 use lib.Seq.{get_or-take, get_or-drop}
-use Rattle.words.specs.declared.Found.{Found}
-use Rattle.words.specs.declared.Found.TheVariants.{At, Nowhere}
 use Rattle.words.specs.Lists.{every, pairwise, first_at, eq_list, or_else}
 use Rattle.words.proofs.BoolLaws.{both, never, falsum}
 use Rattle.words.proofs.EveryLaws.{every-all}
@@ -47,18 +46,18 @@ module _ (tp tc n : List ℕ) (ps : List (List ℕ)) (j : ℕ) (one : pairwise (
           absurd (o (one_entry tp tc ps i j one k l (here-gone tp tc (get_or ps i []) u) (here-gone tp tc (get_or ps j []) h) (v ∙ sym e)))
       go false q = refl
 
-  pub place-alone : put_place tp tc n ps ≡ At j → Alone tp tc n ps j
+  pub place-alone : put_place tp tc n ps ≡ Some j → Alone tp tc n ps j
   unfolding put_place
   place-alone h = go (first_at (named tp tc n) 0 ps) refl h
     where
-      go : (o : Found) → first_at (named tp tc n) 0 ps ≡ o → or_else o (first_at (gone tp tc) 0 ps) ≡ At j → Alone tp tc n ps j
-      go (At i) e q =
+      go : (o : Option ℕ) → first_at (named tp tc n) 0 ps ≡ o → or_else o (first_at (gone tp tc) 0 ps) ≡ Some j → Alone tp tc n ps j
+      go (Some i) e q =
           let (l, t) = found_at (named tp tc n) [] ps j (e ∙ (unfold or_else in q)) in
           let (u, v) = named-true tp tc n (get_or ps j []) t in only l u v
-      go Nowhere e q = λ i k o. found_none (named tp tc n) [] 0 ps e i k
+      go None e q = λ i k o. found_none (named tp tc n) [] 0 ps e i k
 
   -- a name found in the present view
-  pub found-alone : first_at (named tp tp n) 0 ps ≡ At j → Alone tp tc n ps j
+  pub found-alone : first_at (named tp tp n) 0 ps ≡ Some j → Alone tp tc n ps j
   found-alone h =
       let (l, t) = found_at (named tp tp n) [] ps j h in
       let (u, v) = named-true tp tp n (get_or ps j []) t in only l (inl (⊎_elim (λ q. q) (λ q. q) u)) v

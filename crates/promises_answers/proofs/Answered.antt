@@ -1,4 +1,5 @@
 -- One change of an entry, as the plain list of what the session shows sees it. Assumes nothing.
+use Rattle.std.specs.Prelude.{Some}
 use mathlib.Core.Path.{◌≡◌, refl, sym, ap, ◌∙◌}
 use mathlib.Core.Bool.{Bool, true}
 use mathlib.Core.List.{List, [], ◌∷◌, ◌++◌}
@@ -28,7 +29,6 @@ use Rattle.card.proofs.PieceLaws.{holds-run, content-same, content-run}
 use Rattle.card.proofs.FileLaws.{files-append, Within, files-within, Holds, held-data, held-cover, cover-append}
 use Rattle.card.proofs.SoundLaws.{View}
 use Rattle.session.specs.declared.Opened.{Opened}
-use Rattle.session.specs.declared.Session.TheVariants.{Open}
 use Rattle.session.specs.Views.{present_files, session_files}
 use Rattle.session.proofs.FitLaws.{present-live}
 use Rattle.store.specs.Edit.{put_content, put_run, edit_work}
@@ -146,13 +146,13 @@ module _ (s : Opened) (j a k : ℕ) (v : Version) (work n d : List ℕ) (k₀ : 
 
   -- ---- the lists
 
-  list-now : shown_in (Open s) after ≡ list_of tp work (take j es) ++ list_of tp after (x ∷ drop (suc j) es)
+  list-now : shown_in (Some s) after ≡ list_of tp work (take j es) ++ list_of tp after (x ∷ drop (suc j) es)
   unfolding shown_in session_files present_files
   list-now =
       rw (present-live s (sec after) R.live, same-tp, entries-now s j a k v work n d k₀ R, set_split es j x R.below)
       (list-append tp after (take j es) (x ∷ drop (suc j) es) ∙ ap (λ (l : List Item). l ++ list_of tp after (x ∷ drop (suc j) es)) keep-before)
 
-  list-old : without n (shown_in (Open s) work) ≡ list_of tp work (take j es) ++ list_of tp work (drop (suc j) es)
+  list-old : without n (shown_in (Some s) work) ≡ list_of tp work (take j es) ++ list_of tp work (drop (suc j) es)
   unfolding shown_in session_files present_files
   list-old =
       rw (present-live s (sec work) R.live)
@@ -164,11 +164,11 @@ module _ (s : Opened) (j a k : ℕ) (v : Version) (work n d : List ℕ) (k₀ : 
         without-one tp (tc_of s work) n work (entry_at s j work) (drop (suc j) es) hn (quiet-after tp (tc_of s work) n es j R.below al),
       ))
 
-  pub gone-now : v ≡ Absent → shown_in (Open s) after ≡ without n (shown_in (Open s) work)
+  pub gone-now : v ≡ Absent → shown_in (Some s) after ≡ without n (shown_in (Some s) work)
   gone-now e =
       list-now ∙ ap (λ (l : List Item). list_of tp work (take j es) ++ l) (list-absent tp after x (drop (suc j) es) (new-shown ∙ e) ∙ keep-after) ∙ sym list-old
 
-  pub added-now : v ≡ Present (put_run (record { 0 = a }) d) → k ≡ sectors_for (length d) → With n d (shown_in (Open s) work) (shown_in (Open s) after)
+  pub added-now : v ≡ Present (put_run (record { 0 = a }) d) → k ≡ sectors_for (length d) → With n d (shown_in (Some s) work) (shown_in (Some s) after)
   added-now e q =
       record {
         before = list_of tp work (take j es);

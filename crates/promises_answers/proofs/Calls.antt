@@ -1,11 +1,11 @@
 -- A put or remove that gives 0 is ready, and keeps the cut view sector by sector. Assumes nothing.
+use Rattle.std.specs.Prelude.{Some}
 use mathlib.Core.Path.{◌≡◌, refl, sym, ◌∙◌}
 use mathlib.Core.Bool.{false}
 use mathlib.Core.List.{List, []}
 use Prim.Native.Nat.{ℕ, ◌+◌, ◌*◌, ◌%◌, ◌≤◌, ◌<◌}
 use native.Mathlib.Omega.{arith}
 use lib.ListN.{length, length-take, length-drop}
-use Rattle.words.specs.declared.Found.TheVariants.{At}
 use Rattle.words.specs.Lists.{pad}
 use Rattle.words.specs.Bytes.{word_at}
 use Rattle.sectors.specs.declared.Sector.{Sector}
@@ -97,13 +97,13 @@ module _ (s : Opened) (work : List ℕ) (k₀ : Cells) (same-files : files_in s.
         clear = λ i lo hi q. omega (arith, (r i lo hi).1, held-cover _ i (still q));
       }
     where
-      open-place : place_in s work n ≡ At j
-          → put_place (present_table s (sec work)) (tc_of s work) n (entries_of s.geo (sec work)) ≡ At j
+      open-place : place_in s work n ≡ Some j
+          → put_place (present_table s (sec work)) (tc_of s work) n (entries_of s.geo (sec work)) ≡ Some j
       open-place e = unfold place_in cut_table in e
 
-      open-run : run_in s work (sectors_for (length d)) goal ≡ At a.0
+      open-run : run_in s work (sectors_for (length d)) goal ≡ Some a.0
           → run_for (sectors_for (length d)) goal (page_in s.geo (present_table s (sec work)) (sec work)) (page_in s.geo (tc_of s work) (sec work))
-          ≡ At a.0
+          ≡ Some a.0
       open-run e = unfold run_in present_page cut_page cut_table in e
 
       enough : length d ≤ 512 * sectors_for (length d)
@@ -115,7 +115,7 @@ module _ (s : Opened) (work : List ℕ) (k₀ : Cells) (same-files : files_in s.
       good : ((i : ℕ) → a.0 ≤ i → i < a.0 + sectors_for (length d) → InData s.geo i × (cover (files_of (tc_of s work) (entries_of s.geo (sec work))) i ≡ 0))
           → a.0 + sectors_for (length d) ≤ s.geo.s
           → run_for (sectors_for (length d)) goal (page_in s.geo (tp_of s work) (sec work)) (page_in s.geo (tc_of s work) (sec work))
-          ≡ At a.0
+          ≡ Some a.0
           → a.0 % 4096 + sectors_for (length d) ≤ 4096
           → GoodVersion s.geo (Present (put_run a d))
       good r f run page = unfold put_run in record { size = refl; span = λ l. ((r a.0 (omega arith) (omega arith)).0.0, f); empty = λ z. run-for-none _ goal a.0 _ _ run z; page = page }

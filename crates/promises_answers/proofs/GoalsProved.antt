@@ -1,11 +1,11 @@
 -- What Goals states, proved. Assumes nothing.
+use Rattle.std.specs.Prelude.{Some}
 use mathlib.Core.Path.{◌≡◌, refl}
 use mathlib.Core.List.{List, ◌∷◌}
 use mathlib.Core.Logic.{inl, inr}
 use Prim.Native.Nat.{ℕ, ◌≤◌, ◌<◌}
 use native.Mathlib.Omega.{arith}
 use Rattle.session.specs.declared.Opened.{Opened}
-use Rattle.session.specs.declared.Session.TheVariants.{Open}
 use Rattle.store.specs.Edit.{put}
 use Rattle.promises_answers.specs.Numbers.{Row, row, Gives, unfit, worn, bad_name, place_rows, put_at_rows}
 use Rattle.promises_answers.proofs.Numbers.NumbersProved.{of-put-at}
@@ -22,14 +22,14 @@ at-goal : (P Q : Type 0) (rows : List Row) → ¬ Q → Gives (row 11 P ∷ rows
 at-goal P Q rows q (inl p) = absurd (omega (arith, p.1))
 at-goal P Q rows q (inr p) = inr (q, p.1)
 
-room_for : (s : Opened) (work n d : List ℕ) (goal other : ℕ) → other < s.geo.s → Gives (put_at_rows (Open s) work n d goal) 8 → Gives (put_at_rows (Open s) work n d other) 8
+room_for : (s : Opened) (work n d : List ℕ) (goal other : ℕ) → other < s.geo.s → Gives (put_at_rows (Some s) work n d goal) 8 → Gives (put_at_rows (Some s) work n d other) 8
 room_for s work n d goal other l =
-    behind 4 _ (unfit (Open s) work ∷ worn (Open s) ∷ named goal) (unfit (Open s) work ∷ worn (Open s) ∷ named other) (λ e. omega arith)
-    (behind 2 _ (worn (Open s) ∷ named goal) (worn (Open s) ∷ named other) (λ e. omega arith)
-    (behind 9 _ (named goal) (named other) (λ e. omega arith) (behind 5 _ (below goal) (below other) (λ e. omega arith) (at-goal _ _ (place_rows (Open s) work n d) (λ x. omega arith)))))
+    behind 4 _ (unfit (Some s) work ∷ worn (Some s) ∷ named goal) (unfit (Some s) work ∷ worn (Some s) ∷ named other) (λ e. omega arith)
+    (behind 2 _ (worn (Some s) ∷ named goal) (worn (Some s) ∷ named other) (λ e. omega arith)
+    (behind 9 _ (named goal) (named other) (λ e. omega arith) (behind 5 _ (below goal) (below other) (λ e. omega arith) (at-goal _ _ (place_rows (Some s) work n d) (λ x. omega arith)))))
   where
     below : ℕ → List Row
-    below i = row 11 (s.geo.s ≤ i) ∷ place_rows (Open s) work n d
+    below i = row 11 (s.geo.s ≤ i) ∷ place_rows (Some s) work n d
 
     named : ℕ → List Row
     named i = bad_name n ∷ below i
@@ -39,5 +39,5 @@ goals = record {
   without = λ s work n d. unfold put in refl;
   zero = λ s work n d j a h some t f. (((put-places s work n d 0 j a h).1 some).first t (omega arith) f).1;
   after = λ s work n d goal j a h some t l f. (((put-places s work n d goal j a h).1 some).first t l f).0;
-  room = λ s work n d goal other l e. (of-put-at (Open s) work n d other 8).1 (room_for s work n d goal other l ((of-put-at (Open s) work n d goal 8).0 e));
+  room = λ s work n d goal other l e. (of-put-at (Some s) work n d other 8).1 (room_for s work n d goal other l ((of-put-at (Some s) work n d goal 8).0 e));
 }

@@ -7,7 +7,7 @@ use Prim.Native.Nat.{ℕ}
 use borrow.Author.Tests.{ne_eqb}
 use lib.ListN.{replicate}
 use Rattle.card.specs.Reading.{read}
-use Rattle.session.specs.declared.Session.{Session}
+use Rattle.session.specs.Session.{Session}
 use Rattle.store.specs.Look.{free}
 use Rattle.store.specs.Mount.{mount}
 use Rattle.store.specs.Sync.{sync, unmount}

@@ -1,4 +1,5 @@
 -- The plain list of a view: names, lengths, and what get and list make of it. Assumes nothing.
+use Rattle.std.specs.Prelude.{Some, None}
 use mathlib.Core.Path.{◌≡◌, refl, sym, ap, ◌∙◌}
 use mathlib.Core.Bool.{Bool, true, false, not, cond}
 use mathlib.Core.List.{List, [], ◌∷◌}
@@ -9,7 +10,6 @@ use borrow.Author.Tests.{eqb-true, leb-true}
 use lib.Dec.{leb, eqb}
 use lib.ListN.{length, take, drop, get_or, length-drop}
 use lib.Seq.{length-take-le}
-use Rattle.words.specs.declared.Found.TheVariants.{At, Nowhere}
 use Rattle.words.specs.Lists.{every, pairwise, first_at, is_zero, eq_list}
 use Rattle.words.specs.Bytes.{word_at}
 use Rattle.words.proofs.BoolLaws.{both, join}
@@ -148,12 +148,12 @@ module _ (tab img : List ℕ) where
     unfolding named gone
     named-present p e = rw e
 
-    pub look_none : (i : ℕ) (ps : List (List ℕ)) → first_at (named tab tab n) i ps ≡ Nowhere → lookup n (list_of ps) ≡ none
+    pub look_none : (i : ℕ) (ps : List (List ℕ)) → first_at (named tab tab n) i ps ≡ None → lookup n (list_of ps) ≡ none
     unfolding first_at lookup
     look_none i [] h = unfold files_of items in refl
     look_none i (p ∷ ps) h = go (shown tab p) refl (look_none (suc i) ps)
       where
-        go : (v : Version) → shown tab p ≡ v → (first_at (named tab tab n) (suc i) ps ≡ Nowhere → lookup n (list_of ps) ≡ none) → lookup n (list_of (p ∷ ps)) ≡ none
+        go : (v : Version) → shown tab p ≡ v → (first_at (named tab tab n) (suc i) ps ≡ None → lookup n (list_of ps) ≡ none) → lookup n (list_of (p ∷ ps)) ≡ none
         go Absent e ih = rw (list-absent p ps e) (ih (rw (named-absent p e) at h))
         go (Present x) e ih = rw (list-present p ps e) (pick (eq_list n (name_of p)) refl)
           where
@@ -168,22 +168,22 @@ module _ (tab img : List ℕ) where
     later : (i m : ℕ) (p : List ℕ) (ps : List (List ℕ)) → Seen (suc i) m ps → lookup n (list_of (p ∷ ps)) ≡ lookup n (list_of ps) → Seen i m (p ∷ ps)
     later i m p ps w e = (suc w.0, omega (arith, w.1), e ∙ w.2)
 
-    pub look-some : (i m : ℕ) (ps : List (List ℕ)) → first_at (named tab tab n) i ps ≡ At m → Seen i m ps
+    pub look-some : (i m : ℕ) (ps : List (List ℕ)) → first_at (named tab tab n) i ps ≡ Some m → Seen i m ps
     unfolding first_at lookup
     look-some i m [] h = not_at (sym h)
     look-some i m (p ∷ ps) h = go (shown tab p) refl (look-some (suc i) m ps)
       where
-        go : (v : Version) → shown tab p ≡ v → (first_at (named tab tab n) (suc i) ps ≡ At m → Seen (suc i) m ps) → Seen i m (p ∷ ps)
+        go : (v : Version) → shown tab p ≡ v → (first_at (named tab tab n) (suc i) ps ≡ Some m → Seen (suc i) m ps) → Seen i m (p ∷ ps)
         go Absent e ih = later i m p ps (ih (rw (named-absent p e) at h)) (ap (lookup n) (list-absent p ps e))
         go (Present x) e ih = pick (eq_list n (name_of p)) refl
           where
             pick : (b : Bool) → eq_list n (name_of p) ≡ b → Seen i m (p ∷ ps)
             pick true q =
-                let z : At i ≡ At m = rw (named-present p e, q) at h in
+                let z : Some i ≡ Some m = rw (named-present p e, q) at h in
                 let y : lookup n (list_of (p ∷ ps)) ≡ some (content_of img x) = rw (list-present p ps e, q) in
                 let u : run_of (shown tab p) ≡ x = (unfold run_of in rw e) in
                 (0, omega (arith, at_one z), y ∙ rw u)
             pick false q =
-                let z : first_at (named tab tab n) (suc i) ps ≡ At m = rw (named-present p e, q) at h in
+                let z : first_at (named tab tab n) (suc i) ps ≡ Some m = rw (named-present p e, q) at h in
                 let y : lookup n (list_of (p ∷ ps)) ≡ lookup n (list_of ps) = rw (list-present p ps e, q) in
                 later i m p ps (ih z) y

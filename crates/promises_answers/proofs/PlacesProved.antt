@@ -1,4 +1,5 @@
 -- What Places states, proved. Assumes nothing.
+use Rattle.std.specs.Prelude.{Option, Some, None}
 use mathlib.Core.Path.{◌≡◌, refl, sym}
 use mathlib.Core.Bool.{Bool, true, false, cond}
 use mathlib.Core.List.{List, [], ◌∷◌}
@@ -6,8 +7,6 @@ use mathlib.Core.Logic.{inl, inr, ⊎_elim}
 use Prim.Native.Nat.{ℕ, zero, suc, ◌+◌, ◌<◌}
 use native.Mathlib.Omega.{arith}
 use lib.ListN.{length, get_or}
-use Rattle.words.specs.declared.Found.{Found}
-use Rattle.words.specs.declared.Found.TheVariants.{At, Nowhere}
 use Rattle.words.specs.Lists.{first_at, or_else}
 use Rattle.words.proofs.FirstLaws.{at_one, not_at, found_at, found_none}
 use Rattle.sectors.specs.Sectors.{sec}
@@ -26,13 +25,13 @@ use Rattle.promises_answers.proofs.RowLaws.{clash}
 use Rattle.promises_answers.specs.Places.{entry_in, HasName, PlaceIs, FreeFrom, GoesTo, PutPlaces, RemovePlaces}
 
 -- nothing before the first that is found passes
-before-first : {A : Type 0} (f : A → Bool) (d : A) (i m : ℕ) (l : List A) → first_at f i l ≡ At m → (j : ℕ) → i + j < m → f (get_or l j d) ≡ false
+before-first : {A : Type 0} (f : A → Bool) (d : A) (i m : ℕ) (l : List A) → first_at f i l ≡ Some m → (j : ℕ) → i + j < m → f (get_or l j d) ≡ false
 unfolding first_at
 before-first f d i m [] h j q = not_at (sym h)
 before-first f d i m (x ∷ l) h j q = go (f x) refl h j q (before-first f d (suc i) m l)
   where
-    go : (b : Bool) → f x ≡ b → cond b (At i) (first_at f (suc i) l) ≡ At m → (j : ℕ) → i + j < m
-        → (first_at f (suc i) l ≡ At m → (j : ℕ) → suc i + j < m → f (get_or l j d) ≡ false) → f (get_or (x ∷ l) j d) ≡ false
+    go : (b : Bool) → f x ≡ b → cond b (Some i) (first_at f (suc i) l) ≡ Some m → (j : ℕ) → i + j < m
+        → (first_at f (suc i) l ≡ Some m → (j : ℕ) → suc i + j < m → f (get_or l j d) ≡ false) → f (get_or (x ∷ l) j d) ≡ false
     go true e h j q ih = absurd (omega (arith, at_one h, q))
     go false e h zero q ih = e
     go false e h (suc j) q ih = ih h j (omega arith)
@@ -55,18 +54,18 @@ module _ (s : Opened) (work n : List ℕ) where
   has_named i (inl q) = named-intro tp tc n (get_or es i []) (inl q.0) q.1
   has_named i (inr q) = named-intro tp tc n (get_or es i []) (inr q.0) q.1
 
-  place_is : (j : ℕ) → place_in s work n ≡ At j → PlaceIs s work n j
+  place_is : (j : ℕ) → place_in s work n ≡ Some j → PlaceIs s work n j
   unfolding place_in put_place
   place_is j e = go (first_at (named tp tc n) 0 es) refl e
     where
-      go : (o : Found) → first_at (named tp tc n) 0 es ≡ o → or_else o (first_at (gone tp tc) 0 es) ≡ At j → PlaceIs s work n j
-      go (At i) f h =
+      go : (o : Option ℕ) → first_at (named tp tc n) 0 es ≡ o → or_else o (first_at (gone tp tc) 0 es) ≡ Some j → PlaceIs s work n j
+      go (Some i) f h =
           let y : i ≡ j = (unfold or_else in at_one h) in
           let (l, t) = found_at (named tp tc n) [] es j (rw y at f) in
           let own : HasName s work n j = named-has j t in
           record { inside = l; own = λ i l q. own; vacant = λ o. absurd (o own); lowest = λ o. absurd (o own) }
-      go Nowhere f h =
-          let v : first_at (gone tp tc) 0 es ≡ At j = unfold or_else in h in
+      go None f h =
+          let v : first_at (gone tp tc) 0 es ≡ Some j = unfold or_else in h in
           let (l, t) = found_at (gone tp tc) [] es j v in
           record {
             inside = l;
@@ -75,7 +74,7 @@ module _ (s : Opened) (work n : List ℕ) where
             lowest = λ o i q w. clash (gone-intro tp tc (get_or es i []) w.0 w.1) (before-first (gone tp tc) [] 0 j es v i (omega arith));
           }
 
-goes_to : (s : Opened) (work : List ℕ) (k goal a : ℕ) → Fit s work → run_in s work k goal ≡ At a → 0 < k → GoesTo s work k goal a
+goes_to : (s : Opened) (work : List ℕ) (k goal a : ℕ) → Fit s work → run_in s work k goal ≡ Some a → 0 < k → GoesTo s work k goal a
 goes_to s work k goal a F e some = record {
   fitting = let (lo, hi, page, free) = room_in s work F k goal a some e in (hi, page, free);
   first = λ t l f. R.first t l (room t f);

@@ -1,4 +1,5 @@
 -- What Refusals states, proved. Assumes nothing.
+use Rattle.std.specs.Prelude.{Some, None}
 use mathlib.Core.Path.{◌≡◌, refl}
 use mathlib.Core.List.{List}
 use mathlib.Core.Logic.{◌≢◌}
@@ -6,17 +7,15 @@ use Prim.Native.Nat.{ℕ}
 use Rattle.sectors.specs.declared.Sector.{Sector}
 use Rattle.counts.specs.declared.Geo.{Geo}
 use Rattle.card.specs.declared.Line.{Line}
-use Rattle.card.specs.declared.Report.{Report}
-use Rattle.card.specs.Plan.{Plan, refuse, do_it, ended, refused, done, Changed, Got, Listed}
+use Rattle.card.specs.Plan.{Report, Plan, refuse, do_it, ended, refused, done, Changed, Got, Listed}
 use Rattle.card.specs.Files.{get_end, list_end}
 use Rattle.card.specs.Make.{make_plan, make}
 use Rattle.card.specs.Reading.{read, read_list, read_get}
-use Rattle.session.specs.declared.Session.{Session}
-use Rattle.session.specs.declared.Session.TheVariants.{Closed, Open}
+use Rattle.session.specs.Session.{Session}
 use Rattle.session.specs.Views.{session_files}
 use Rattle.store.specs.Mount.{Ended, mount_plan, mount_done, mount}
 use Rattle.store.specs.Edit.{put_plan, remove_plan, remove, put_at}
-use Rattle.store.specs.declared.Room.{Room}
+use Rattle.store.specs.Given.{Room}
 use Rattle.store.specs.Look.{get, list, no_figures, figures, free}
 use Rattle.store.specs.Sync.{land, sync_done, sync, unmount_done, unmount}
 use Rattle.promises_answers.specs.Refusals.{Same, SameOut, SameLines, SameBoth, Refusals}
@@ -31,20 +30,20 @@ of-make : (g : Geo) (card : List ℕ) → (make g card).answer.number ≢ 0 → 
 unfolding make refused done
 of-make g card n = refused-so (λ (r : Changed). r.answer.number) (λ r. Same r card) _ _ (λ j a. refl) (λ k. (refl, refl)) (make_plan g card) n
 
-of-mount : (card work : List ℕ) → (mount card work).answer.number ≢ 0 → SameBoth (mount card work) Closed card work
+of-mount : (card work : List ℕ) → (mount card work).answer.number ≢ 0 → SameBoth (mount card work) None card work
 unfolding mount mount_done refused done
 of-mount card work n =
-    refused-so (λ (r : Ended). r.answer.number) (λ r. SameBoth r Closed card work) _ _ (λ j a. refl) (λ k. (refl, refl, refl, refl)) (mount_plan card work) n
+    refused-so (λ (r : Ended). r.answer.number) (λ r. SameBoth r None card work) _ _ (λ j a. refl) (λ k. (refl, refl, refl, refl)) (mount_plan card work) n
 
 of-put : (s : Session) (work n d : List ℕ) (goal : ℕ) → (put_at s work n d goal).answer.number ≢ 0 → Same (put_at s work n d goal) work
 unfolding put_at refused done
-of-put Closed work n d goal h = (refl, refl)
-of-put (Open s) work n d goal h = refused-so (λ (r : Changed). r.answer.number) (λ r. Same r work) _ _ (λ j a. refl) (λ k. (refl, refl)) (put_plan s work n d goal) h
+of-put None work n d goal h = (refl, refl)
+of-put (Some s) work n d goal h = refused-so (λ (r : Changed). r.answer.number) (λ r. Same r work) _ _ (λ j a. refl) (λ k. (refl, refl)) (put_plan s work n d goal) h
 
 of-remove : (s : Session) (work n : List ℕ) → (remove s work n).answer.number ≢ 0 → Same (remove s work n) work
 unfolding remove refused done
-of-remove Closed work n h = (refl, refl)
-of-remove (Open s) work n h = refused-so (λ (r : Changed). r.answer.number) (λ r. Same r work) _ _ (λ j a. refl) (λ k. (refl, refl)) (remove_plan s work n) h
+of-remove None work n h = (refl, refl)
+of-remove (Some s) work n h = refused-so (λ (r : Changed). r.answer.number) (λ r. Same r work) _ _ (λ j a. refl) (λ k. (refl, refl)) (remove_plan s work n) h
 
 got_same : (g : Geo) (tab img out : List ℕ) (p : Plan) → (get_end g tab img out p).answer.number ≢ 0 → SameOut (get_end g tab img out p) out
 unfolding get_end refused done
@@ -56,8 +55,8 @@ listed_same files lines p h = refused-so (λ (r : Listed). r.answer.number) (λ 
 
 of-get : (s : Session) (work n out : List ℕ) → (get s work n out).answer.number ≢ 0 → SameOut (get s work n out) out
 unfolding get refused
-of-get Closed work n out h = (refl, refl)
-of-get (Open s) work n out h = got_same _ _ work out _ h
+of-get None work n out h = (refl, refl)
+of-get (Some s) work n out h = got_same _ _ work out _ h
 
 of-list : (s : Session) (work : List ℕ) (lines : List Line) → (list s work lines).answer.number ≢ 0 → SameLines (list s work lines) lines
 unfolding list
@@ -65,25 +64,25 @@ of-list s work lines h = listed_same (session_files s work) lines _ h
 
 of-free : (s : Session) (work : List ℕ) → (free s work).number ≢ 0 → ((free s work).free ≡ 0) × ((free s work).waiting ≡ 0)
 unfolding free no_figures figures
-of-free Closed work h = (refl, refl)
-of-free (Open s) work h = refused-so (λ (r : Room). r.number) (λ r. (r.free ≡ 0) × (r.waiting ≡ 0)) _ _ (λ j a. refl) (λ k. (refl, refl)) _ h
+of-free None work h = (refl, refl)
+of-free (Some s) work h = refused-so (λ (r : Room). r.number) (λ r. (r.free ≡ 0) × (r.waiting ≡ 0)) _ _ (λ j a. refl) (λ k. (refl, refl)) _ h
 
 of-land : (s : Session) (card work : List ℕ) (i : ℕ) → (land s card work i).answer.number ≢ 0 → Same (land s card work i) card
 unfolding land refused done
-of-land Closed card work i h = (refl, refl)
-of-land (Open s) card work i h = refused-so (λ (r : Changed). r.answer.number) (λ r. Same r card) _ _ (λ j a. refl) (λ k. (refl, refl)) _ h
+of-land None card work i h = (refl, refl)
+of-land (Some s) card work i h = refused-so (λ (r : Changed). r.answer.number) (λ r. Same r card) _ _ (λ j a. refl) (λ k. (refl, refl)) _ h
 
 of-sync : (s : Session) (card work : List ℕ) → (sync s card work).answer.number ≢ 0 → SameBoth (sync s card work) s card work
 unfolding sync sync_done refused done
-of-sync Closed card work h = (refl, refl, refl, refl)
-of-sync (Open s) card work h =
-    refused-so (λ (r : Ended). r.answer.number) (λ r. SameBoth r (Open s) card work) _ _ (λ j a. refl) (λ k. (refl, refl, refl, refl)) _ h
+of-sync None card work h = (refl, refl, refl, refl)
+of-sync (Some s) card work h =
+    refused-so (λ (r : Ended). r.answer.number) (λ r. SameBoth r (Some s) card work) _ _ (λ j a. refl) (λ k. (refl, refl, refl, refl)) _ h
 
 of-unmount : (s : Session) (card work : List ℕ) → (unmount s card work).answer.number ≢ 0 → SameBoth (unmount s card work) s card work
 unfolding unmount unmount_done refused done
-of-unmount Closed card work h = (refl, refl, refl, refl)
-of-unmount (Open s) card work h =
-    refused-so (λ (r : Ended). r.answer.number) (λ r. SameBoth r (Open s) card work) _ _ (λ j a. refl) (λ k. (refl, refl, refl, refl)) _ h
+of-unmount None card work h = (refl, refl, refl, refl)
+of-unmount (Some s) card work h =
+    refused-so (λ (r : Ended). r.answer.number) (λ r. SameBoth r (Some s) card work) _ _ (λ j a. refl) (λ k. (refl, refl, refl, refl)) _ h
 
 of-read : (img : List ℕ) → (read img).number ≢ 0 → ((read img).c.0 ≡ 0) × ((read img).n ≡ 0) × ((read img).files ≡ 0) × ((read img).free ≡ 0)
 unfolding read

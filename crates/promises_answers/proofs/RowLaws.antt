@@ -1,4 +1,5 @@
 -- A plan follows its rows: one test, one row, in order. Assumes nothing.
+use Rattle.std.specs.Prelude.{Option, Some, None}
 use mathlib.Core.Path.{◌≡◌, refl, sym, ◌∙◌, subst}
 use mathlib.Core.Bool.{Bool, true, false, not, ◌&&◌}
 use mathlib.Core.List.{List, [], ◌∷◌}
@@ -7,13 +8,10 @@ use Prim.Native.Nat.{ℕ, ◌≤◌, ◌<◌}
 use native.Mathlib.Omega.{arith}
 use borrow.Author.Tests.{not-true, not-false, eqb-true, eqb-false, leb-true, leb-false, ltb-true, ltb-false}
 use lib.Dec.{leb, ltb, eqb}
-use Rattle.words.specs.declared.Found.{Found}
-use Rattle.words.specs.declared.Found.TheVariants.{At, Nowhere}
 use Rattle.words.proofs.BoolLaws.{falsum, both, never}
 use Rattle.sectors.specs.declared.Sector.{Sector}
 use Rattle.card.specs.Plan.{Plan, refuse, do_it, guard, need, ended}
 use Rattle.session.specs.declared.Opened.{Opened}
-use Rattle.session.specs.declared.Session.TheVariants.{Closed, Open}
 use Rattle.promises_answers.specs.Numbers.{Row, row, Gives, Exactly, closed}
 
 -- ---- rows
@@ -64,11 +62,11 @@ unfolding guard number_of
 guard-row k true p P rows y n g = record { gives = inr (n refl, (g refl).gives) }
 guard-row k false p P rows y n g = record { gives = inl (y refl, refl) }
 
-pub need-row : (k : ℕ) (o : Found) (f : ℕ → Plan) (P : Type 0) (rows : List Row) → (o ≡ Nowhere → P) → ((i : ℕ) → o ≡ At i → ¬ P)
-    → ((i : ℕ) → o ≡ At i → Follows rows (f i)) → Follows (row k P ∷ rows) (need k o f)
+pub need-row : (k : ℕ) (o : Option ℕ) (f : ℕ → Plan) (P : Type 0) (rows : List Row) → (o ≡ None → P) → ((i : ℕ) → o ≡ Some i → ¬ P)
+    → ((i : ℕ) → o ≡ Some i → Follows rows (f i)) → Follows (row k P ∷ rows) (need k o f)
 unfolding need number_of
-need-row k Nowhere f P rows y n g = record { gives = inl (y refl, refl) }
-need-row k (At i) f P rows y n g = record { gives = inr (n i refl, (g i refl).gives) }
+need-row k None f P rows y n g = record { gives = inl (y refl, refl) }
+need-row k (Some i) f P rows y n g = record { gives = inr (n i refl, (g i refl).gives) }
 
 pub exactly : {rows : List Row} {p : Plan} {m : ℕ} → m ≡ number_of p → Follows rows p → Exactly m rows
 exactly {rows} {p} {m} e g j = (λ q. subst (Gives rows) (sym e ∙ q) g.gives, λ h. e ∙ gives_one rows (number_of p) j g.gives h)
@@ -103,9 +101,9 @@ lt-row k x y p rows g =
     guard-row k (ltb x y) p (y ≤ x) rows (λ e. ltb-false x y e) (λ e o. omega (arith, ltb-true x y e)) (λ e. g (ltb-true x y e))
 
 -- 4: a closed session, and an open one
-pub closed-row : {rows : List Row} → Follows (closed Closed ∷ rows) (refuse 4)
+pub closed-row : {rows : List Row} → Follows (closed None ∷ rows) (refuse 4)
 unfolding number_of
 closed-row {rows} = record { gives = inl (refl, refl) }
 
-pub open_row : (s : Opened) {rows : List Row} {p : Plan} → Follows rows p → Follows (closed (Open s) ∷ rows) p
+pub open_row : (s : Opened) {rows : List Row} {p : Plan} → Follows rows p → Follows (closed (Some s) ∷ rows) p
 open_row s {rows} {p} g = record { gives = inr (λ e. never (cc), g.gives) }

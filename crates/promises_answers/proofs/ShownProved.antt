@@ -1,4 +1,5 @@
 -- A fitting session and a sound card answer as a plain list of names with contents does, proved. Assumes nothing.
+use Rattle.std.specs.Prelude.{Some}
 use mathlib.Core.Path.{◌≡◌, refl, sym, ◌∙◌}
 use mathlib.Core.Bool.{true}
 use mathlib.Core.List.{List, ◌++◌}
@@ -22,7 +23,6 @@ use Rattle.card.proofs.MeansParts.{limits-mean, name-means}
 use Rattle.card.proofs.MeansProved.{sound-means}
 use Rattle.card.specs.Reading.{files_in, files_shown, read_plan, read, read_list, read_get}
 use Rattle.session.specs.declared.Opened.{Opened}
-use Rattle.session.specs.declared.Session.TheVariants.{Open}
 use Rattle.session.specs.Views.{present_table, present_page, cut_page, present_files, session_files}
 use Rattle.session.specs.Fits.{fits}
 use Rattle.session.proofs.FitLaws.{Fit, fit-inv}
@@ -46,19 +46,19 @@ module _ (s : Opened) (work : List ℕ) (fit : fits s work ≡ true) where
   U : View s.geo s.c.0 tp (sec work)
   U = view-inv s.geo s.c.0 tp (sec work) F.pres_view
 
-  is-list : shown_in (Open s) work ≡ list_of tp work (entries_of s.geo (sec work))
+  is-list : shown_in (Some s) work ≡ list_of tp work (entries_of s.geo (sec work))
   unfolding shown_in session_files present_files
   is-list = refl
 
-  get-is : (n out : List ℕ) → get (Open s) work n out ≡ get_end s.geo tp work out (get_plan s.geo tp work n out)
+  get-is : (n out : List ℕ) → get (Some s) work n out ≡ get_end s.geo tp work out (get_plan s.geo tp work n out)
   unfolding get guard
   get-is n out = rw fit
 
-  list-is : (lines : List Line) → list (Open s) work lines ≡ list_end (present_files s (sec work)) lines (list_plan (present_files s (sec work)) (length lines))
+  list-is : (lines : List Line) → list (Some s) work lines ≡ list_end (present_files s (sec work)) lines (list_plan (present_files s (sec work)) (length lines))
   unfolding list list_tests session_files guard
   list-is lines = rw fit
 
-  pub free-is : free (Open s) work ≡ figures s work
+  pub free-is : free (Some s) work ≡ figures s work
   unfolding free guard ended
   free-is = rw fit
 
@@ -69,13 +69,13 @@ module _ (s : Opened) (work : List ℕ) (fit : fits s work ≡ true) where
       omega
       (arith, free-waiting (present_page s (sec work)) (cut_page s (sec work)) (alike s work F), view-space s.geo s.c.0 tp work F.shape F.sized U)
 
-  session-lists : (lines : List Line) → length (shown_in (Open s) work) ≤ length lines
-      → list (Open s) work lines ≡ record { answer = done (length (shown_in (Open s) work)); lines = present_files s (sec work) ++ drop (length (shown_in (Open s) work)) lines }
+  session-lists : (lines : List Line) → length (shown_in (Some s) work) ≤ length lines
+      → list (Some s) work lines ≡ record { answer = done (length (shown_in (Some s) work)); lines = present_files s (sec work) ++ drop (length (shown_in (Some s) work)) lines }
   unfolding present_files shown_in session_files
   session-lists lines h = list-is lines ∙ view-list s.geo s.c.0 tp (table_of s.geo (sec work)) work F.shape F.sized U F.alone lines h
 
-  session-frees : ((free (Open s) work).number ≡ 0)
-      × ((free (Open s) work).free + (free (Open s) work).waiting + sectors_of (present_files s (sec work)) + g_f s.geo ≡ s.geo.s)
+  session-frees : ((free (Some s) work).number ≡ 0)
+      × ((free (Some s) work).free + (free (Some s) work).waiting + sectors_of (present_files s (sec work)) + g_f s.geo ≡ s.geo.s)
   session-frees = rw free-is (unfold figures in refl, sums)
 
   pub session-shows : SessionShows s work

@@ -1,4 +1,5 @@
 -- After a sync the working image is the new base: sound, and it shows what the present view showed. Assumes nothing.
+use Rattle.std.specs.Prelude.{Some}
 use mathlib.Core.Path.{◌≡◌, sym, ◌∙◌}
 use mathlib.Core.Bool.{true, false}
 use mathlib.Core.List.{List}
@@ -20,7 +21,6 @@ use Rattle.card.specs.Reading.{files_in}
 use Rattle.card.specs.Sound.{view_ok, sound_in}
 use Rattle.card.proofs.AgreeLaws.{view-mono, alone-first, entries-agree, view-agree, sound-agree, Bump, bump-table}
 use Rattle.session.specs.declared.Opened.{Opened}
-use Rattle.session.specs.declared.Session.TheVariants.{Open}
 use Rattle.session.specs.Views.{present_files, session_files}
 use Rattle.session.proofs.FitLaws.{Fit, Head, head-inv, present-live}
 use Rattle.store.specs.Steps.{set_word, table_sector}
@@ -84,7 +84,7 @@ module _ (s : Opened) (work : List ℕ) (F : Fit s work) (live : s.worn ≡ fals
   sync-files = rw (sync-table, entries-agree g (sec work) (sec synced) (table_sector s.c.0) room.1 sync-other)
 
   -- what the session showed is what its working image shows now
-  pub sync-shows : items synced (files_in g (sec synced)) ≡ shown_in (Open s) work
+  pub sync-shows : items synced (files_in g (sec synced)) ≡ shown_in (Some s) work
   unfolding shown_in session_files present_files
   sync-shows =
       rw (sync-files, present-live s (sec work) live)

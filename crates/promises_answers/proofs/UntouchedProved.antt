@@ -1,4 +1,5 @@
 -- What Untouched states, proved. Assumes nothing.
+use Rattle.std.specs.Prelude.{Some}
 use mathlib.Core.Path.{◌≡◌, refl, sym, ◌∙◌}
 use mathlib.Core.List.{List, []}
 use mathlib.Core.Logic.{◌⊎◌, inl, inr, ◌↔◌}
@@ -23,7 +24,6 @@ use Rattle.card.specs.Plan.{do_it, ended, done}
 use Rattle.card.specs.Files.{FileHolds, pieces_in, files_of, cover, run_of}
 use Rattle.card.proofs.PieceLaws.{run-bytes}
 use Rattle.session.specs.declared.Opened.{Opened}
-use Rattle.session.specs.declared.Session.TheVariants.{Open}
 use Rattle.session.specs.Views.{own_stamp, present_table, cut_table, cut_page}
 use Rattle.session.proofs.FitLaws.{fit-inv, present-live}
 use Rattle.store.specs.Edit.{put_content, put_plan, put_run, put_work, put_at, remove_plan, remove_work, remove, edit_work}
@@ -121,23 +121,23 @@ remove-untouched s work n j a h =
 -- ---- as the calls answer: 0 goes with an entry and a run, and the call leaves the image so changed
 
 put-leaves : (s : Opened) (work n d : List ℕ) (goal j : ℕ) (a : Sector) → put_plan s work n d goal ≡ do_it j a
-    → Untouched s j (Present (put_run a d)) work n d (put_at (Open s) work n d goal).image
+    → Untouched s j (Present (put_run a d)) work n d (put_at (Some s) work n d goal).image
 unfolding put_at
 put-leaves s work n d goal j a h = rw h (unfold ended in put-untouched s work n d goal j a h)
 
-remove-leaves : (s : Opened) (work n : List ℕ) (j : ℕ) (a : Sector) → remove_plan s work n ≡ do_it j a → Untouched s j Absent work n [] (remove (Open s) work n).image
+remove-leaves : (s : Opened) (work n : List ℕ) (j : ℕ) (a : Sector) → remove_plan s work n ≡ do_it j a → Untouched s j Absent work n [] (remove (Some s) work n).image
 unfolding remove
 remove-leaves s work n j a h = rw h (unfold ended in remove-untouched s work n j a h)
 
-pub put-changes : (s : Opened) (work n d : List ℕ) (goal : ℕ) → (put_at (Open s) work n d goal).answer.number ≡ 0
-    → (j : ℕ) × (a : Sector) × (put_plan s work n d goal ≡ do_it j a) × Untouched s j (Present (put_run a d)) work n d (put_at (Open s) work n d goal).image
+pub put-changes : (s : Opened) (work n d : List ℕ) (goal : ℕ) → (put_at (Some s) work n d goal).answer.number ≡ 0
+    → (j : ℕ) × (a : Sector) × (put_plan s work n d goal ≡ do_it j a) × Untouched s j (Present (put_run a d)) work n d (put_at (Some s) work n d goal).image
 unfolding put_at
 put-changes s work n d goal h =
     let (j, a, e) = done-plan work (λ i b. record { answer = done 0; image = put_work s i b work n d }) (put-num s work n d goal) h in
     (j, a, e, put-leaves s work n d goal j a e)
 
-pub remove-changes : (s : Opened) (work n : List ℕ) → (remove (Open s) work n).answer.number ≡ 0
-    → (j : ℕ) × (a : Sector) × (remove_plan s work n ≡ do_it j a) × Untouched s j Absent work n [] (remove (Open s) work n).image
+pub remove-changes : (s : Opened) (work n : List ℕ) → (remove (Some s) work n).answer.number ≡ 0
+    → (j : ℕ) × (a : Sector) × (remove_plan s work n ≡ do_it j a) × Untouched s j Absent work n [] (remove (Some s) work n).image
 unfolding remove
 remove-changes s work n h =
     let (j, a, e) = done-plan work (λ i b. record { answer = done 0; image = remove_work s i work n }) (remove-num s work n) h in

@@ -1,4 +1,5 @@
 -- One view that passes, as a plain list: names, get and list. Assumes nothing.
+use Rattle.std.specs.Prelude.{Option, Some, None}
 use mathlib.Core.Path.{◌≡◌, refl, ap, ◌∙◌}
 use mathlib.Core.Bool.{Bool, true, false, not}
 use mathlib.Core.List.{List, [], ◌∷◌, ◌++◌, Memᴰ}
@@ -9,8 +10,6 @@ use native.Mathlib.Omega.{arith}
 use borrow.Author.Tests.{eq-eqb, le-leb}
 use lib.Dec.{leb}
 use lib.ListN.{length, drop, get_or}
-use Rattle.words.specs.declared.Found.{Found}
-use Rattle.words.specs.declared.Found.TheVariants.{At, Nowhere}
 use Rattle.words.specs.Lists.{every, pairwise, first_at, eq_list, splice}
 use Rattle.words.proofs.BoolLaws.{both, falsum}
 use Rattle.words.proofs.EveryMore.{eq_list-refl}
@@ -82,7 +81,7 @@ module _ (g : Geo) (bound : ℕ) (tab tc img : List ℕ) (ok : geo_ok g ≡ true
   view-told = list-told tab img g bound ps U.entries (all-wide g img ok sized) sized
 
   -- the content that place j has is as long as its run says
-  found-length : (n : List ℕ) (j : ℕ) → first_at (named tab tab n) 0 ps ≡ At j → length (content_of img (run_at g tab img j)) ≡ (run_at g tab img j).bytes
+  found-length : (n : List ℕ) (j : ℕ) → first_at (named tab tab n) 0 ps ≡ Some j → length (content_of img (run_at g tab img j)) ≡ (run_at g tab img j).bytes
   unfolding run_at
   found-length n j e =
       let (l, t) = found_at (named tab tab n) [] ps j e in
@@ -101,17 +100,17 @@ module _ (g : Geo) (bound : ℕ) (tab tc img : List ℕ) (ok : geo_ok g ≡ true
   filled out j a = record { answer = done (run_at g tab img j).bytes; out = splice out 0 (content_of img (run_at g tab img j)) }
 
   fill-or-10 : (out : List ℕ) (j : ℕ) → length (content_of img (run_at g tab img j)) ≡ (run_at g tab img j).bytes → (t : Bool) → leb (run_at g tab img j).bytes (length out) ≡ t
-      → ended (guard 5 true (need 6 (At j) (λ i. guard 10 (leb (run_at g tab img i).bytes (length out)) (do_at i)))) (kept out) (filled out)
+      → ended (guard 5 true (need 6 (Some j) (λ i. guard 10 (leb (run_at g tab img i).bytes (length out)) (do_at i)))) (kept out) (filled out)
       ≡ plain_get (some (content_of img (run_at g tab img j))) out
   unfolding ended guard need plain_get
   fill-or-10 out j b true h = rw (b, h)
   fill-or-10 out j b false h = rw (b, h)
 
-  none-6 : (out : List ℕ) (f : ℕ → Plan) → ended (guard 5 true (need 6 Nowhere f)) (kept out) (filled out) ≡ plain_get none out
+  none-6 : (out : List ℕ) (f : ℕ → Plan) → ended (guard 5 true (need 6 None f)) (kept out) (filled out) ≡ plain_get none out
   unfolding ended guard need plain_get
   none-6 out f = refl
 
-  look_at : (n : List ℕ) (j : ℕ) → first_at (named tab tab n) 0 ps ≡ At j → lookup n (list_of tab img ps) ≡ some (content_of img (run_at g tab img j))
+  look_at : (n : List ℕ) (j : ℕ) → first_at (named tab tab n) 0 ps ≡ Some j → lookup n (list_of tab img ps) ≡ some (content_of img (run_at g tab img j))
   unfolding run_at
   look_at n j e =
       let (i, z, q) = look-some tab img n 0 j ps e in
@@ -122,11 +121,11 @@ module _ (g : Geo) (bound : ℕ) (tab tc img : List ℕ) (ok : geo_ok g ≡ true
   unfolding get_end get_plan
   view-get n out good = rw good (go (first_at (named tab tab n) 0 ps) refl)
     where
-      go : (o : Found) → first_at (named tab tab n) 0 ps ≡ o
+      go : (o : Option ℕ) → first_at (named tab tab n) 0 ps ≡ o
           → ended (guard 5 true (need 6 (first_at (named tab tab n) 0 ps) (λ j. guard 10 (leb (run_at g tab img j).bytes (length out)) (do_at j)))) (kept out) (filled out)
           ≡ plain_get (lookup n (list_of tab img ps)) out
-      go Nowhere e = rw (e, look_none tab img n 0 ps e) (none-6 out (λ j. guard 10 (leb (run_at g tab img j).bytes (length out)) (do_at j)))
-      go (At j) e =
+      go None e = rw (e, look_none tab img n 0 ps e) (none-6 out (λ j. guard 10 (leb (run_at g tab img j).bytes (length out)) (do_at j)))
+      go (Some j) e =
           rw (e, look_at n j e) (fill-or-10 out j (found-length n j e) (leb (run_at g tab img j).bytes (length out)) refl)
 
   pub view-list : (lines : List Line) → length (list_of tab img ps) ≤ length lines

@@ -1,6 +1,6 @@
 -- Demand 2 for the calls that change: put and remove answer as a plain list of names with contents does. Assumes nothing.
 use Rattle.std.specs.Prelude.{◌≡◌, List, ℕ}
-use Rattle.session.specs.declared.Session.{Session}
+use Rattle.session.specs.Session.{Session}
 use Rattle.store.specs.Edit.{put_at, remove}
 use Rattle.promises_answers.specs.PlainList.{without, With, shown_in}
 

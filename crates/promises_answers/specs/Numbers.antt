@@ -1,5 +1,5 @@
 -- Demand 2, "Numbers given back", stated: each call gives number k exactly when the table says so, in its order of tests. Assumes nothing.
-use Rattle.std.specs.Prelude.{◌≡◌, true, List, [], ◌∷◌, ◌⊎◌, ◌≢◌, ◌↔◌, ℕ, ◌+◌, ◌*◌, ◌%◌, ◌≤◌, ◌<◌, length, get_or}
+use Rattle.std.specs.Prelude.{◌≡◌, true, List, [], ◌∷◌, ◌⊎◌, ◌≢◌, ◌↔◌, ℕ, ◌+◌, ◌*◌, ◌%◌, ◌≤◌, ◌<◌, length, get_or, Some, None}
 use Rattle.sectors.specs.Sectors.{sec}
 use Rattle.counts.specs.declared.Geo.{Geo}
 use Rattle.counts.specs.Geometry.{g_n, g_f, geo_of, count_of, table_of}
@@ -13,8 +13,7 @@ use Rattle.card.specs.Means.{InLimits, GoodName, ShowsFile, Each, Sound}
 use Rattle.card.specs.Make.{make}
 use Rattle.card.specs.Reading.{files_shown, read, read_list, read_get}
 use Rattle.session.specs.declared.Opened.{Opened}
-use Rattle.session.specs.declared.Session.{Session}
-use Rattle.session.specs.declared.Session.TheVariants.{Closed, Open}
+use Rattle.session.specs.Session.{Session}
 use Rattle.session.specs.Views.{present_table, cut_table, present_page, cut_page, present_files}
 use Rattle.session.specs.FitMeans.{Fits}
 use Rattle.store.specs.Mount.{mount}
@@ -43,8 +42,8 @@ Misshapen img = (¬ InLimits (geo_of (sec img))) ⊎ (length img ≢ 512 * (geo_
 
 -- what is said of an open session
 abbrev pub When : Session → (Opened → Type 0) → Type 0
-When Closed P = ⊥
-When (Open s) P = P s
+When None P = ⊥
+When (Some s) P = P s
 
 -- an entry shows a file of that name in a view
 abbrev pub Shows : List ℕ → List ℕ → List ℕ → Type 0
@@ -75,7 +74,7 @@ TooLong g tab img n out =
 
 -- 4: "the session is closed"; 1 of a session call; 2: "the session does not fit"; 9; 5: "name length or byte outside the rule"
 abbrev pub closed : Session → Row
-closed s = row 4 (s ≡ Closed)
+closed s = row 4 (s ≡ None)
 
 abbrev pub of_card : Session → List ℕ → Row
 of_card s card = row 1 (When s (λ o. length card ≢ 512 * o.geo.s))

@@ -1,5 +1,5 @@
 -- Demand 2, that the calls answer as a plain list of names with contents does, stated: names, get, list, free and reading. Assumes nothing.
-use Rattle.std.specs.Prelude.{◌≡◌, cond, ◌≢◌, ℕ, ◌+◌, ◌*◌, ◌≤◌, leb, length, drop}
+use Rattle.std.specs.Prelude.{◌≡◌, cond, ◌≢◌, ℕ, ◌+◌, ◌*◌, ◌≤◌, leb, length, drop, Some}
 use mathlib.Core.List.{List, [], ◌∷◌, ◌++◌, Memᴰ}
 use Rattle.std.proofs.Math.Option.{Option, none, some}
 use Rattle.words.specs.Lists.{splice}
@@ -11,7 +11,6 @@ use Rattle.card.specs.Files.{sectors_of}
 use Rattle.card.specs.Means.{InLimits, GoodName, Sound}
 use Rattle.card.specs.Reading.{files_shown, read, read_list, read_get}
 use Rattle.session.specs.declared.Opened.{Opened}
-use Rattle.session.specs.declared.Session.TheVariants.{Open}
 use Rattle.session.specs.Views.{present_files}
 use Rattle.session.specs.FitMeans.{Fits}
 use Rattle.store.specs.Look.{get, list, free}
@@ -45,14 +44,14 @@ pub data Lines : List Item → List Line → Type 0 where
 
 -- a session that fits
 pub record SessionShows (s : Opened) (work : List ℕ) : Type 0 where
-  pub names : Names (shown_in (Open s) work)
-  pub gets : (n out : List ℕ) → GoodName n → get (Open s) work n out ≡ plain_get (lookup n (shown_in (Open s) work)) out
-  pub tells : Lines (shown_in (Open s) work) (present_files s (sec work))
-  pub lists : (lines : List Line) → length (shown_in (Open s) work) ≤ length lines
-      → list (Open s) work lines ≡ record { answer = done (length (shown_in (Open s) work)); lines = present_files s (sec work) ++ drop (length (shown_in (Open s) work)) lines }
+  pub names : Names (shown_in (Some s) work)
+  pub gets : (n out : List ℕ) → GoodName n → get (Some s) work n out ≡ plain_get (lookup n (shown_in (Some s) work)) out
+  pub tells : Lines (shown_in (Some s) work) (present_files s (sec work))
+  pub lists : (lines : List Line) → length (shown_in (Some s) work) ≤ length lines
+      → list (Some s) work lines ≡ record { answer = done (length (shown_in (Some s) work)); lines = present_files s (sec work) ++ drop (length (shown_in (Some s) work)) lines }
   -- "Free, waiting, sectors of present files and F add up to S"
-  pub frees : ((free (Open s) work).number ≡ 0)
-      × ((free (Open s) work).free + (free (Open s) work).waiting + sectors_of (present_files s (sec work)) + g_f s.geo ≡ s.geo.s)
+  pub frees : ((free (Some s) work).number ≡ 0)
+      × ((free (Some s) work).free + (free (Some s) work).waiting + sectors_of (present_files s (sec work)) + g_f s.geo ≡ s.geo.s)
 
 -- a card of the right shape that is sound
 pub record CardShows (card : List ℕ) : Type 0 where

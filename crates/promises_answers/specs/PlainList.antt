@@ -5,7 +5,7 @@ use Rattle.words.specs.Lists.{eq_list}
 use Rattle.card.specs.declared.Line.{Line}
 use Rattle.card.specs.Files.{content_of}
 use Rattle.card.specs.Reading.{files_shown}
-use Rattle.session.specs.declared.Session.{Session}
+use Rattle.session.specs.Session.{Session}
 use Rattle.session.specs.Views.{session_files}
 
 pub record Item : Type 0 where

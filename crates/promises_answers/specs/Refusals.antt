@@ -1,12 +1,11 @@
 -- "A refusal returns its number and a zero count", and changes nothing: every image, session, output and table of lines is as lent. Assumes nothing.
-use Rattle.std.specs.Prelude.{◌≡◌, List, ◌≢◌, ℕ}
+use Rattle.std.specs.Prelude.{◌≡◌, List, ◌≢◌, ℕ, None}
 use Rattle.counts.specs.declared.Geo.{Geo}
 use Rattle.card.specs.declared.Line.{Line}
 use Rattle.card.specs.Plan.{Changed, Got, Listed}
 use Rattle.card.specs.Make.{make}
 use Rattle.card.specs.Reading.{read, read_list, read_get}
-use Rattle.session.specs.declared.Session.{Session}
-use Rattle.session.specs.declared.Session.TheVariants.{Closed}
+use Rattle.session.specs.Session.{Session}
 use Rattle.store.specs.Mount.{Ended, mount}
 use Rattle.store.specs.Edit.{remove, put_at}
 use Rattle.store.specs.Look.{get, list, free}
@@ -27,7 +26,7 @@ SameBoth r s card work = (r.session ≡ s) × (r.card ≡ card) × (r.work ≡ w
 
 pub record Refusals : Type 0 where
   pub of_make : (g : Geo) (card : List ℕ) → (make g card).answer.number ≢ 0 → Same (make g card) card
-  pub of_mount : (card work : List ℕ) → (mount card work).answer.number ≢ 0 → SameBoth (mount card work) Closed card work
+  pub of_mount : (card work : List ℕ) → (mount card work).answer.number ≢ 0 → SameBoth (mount card work) None card work
   pub of_put : (s : Session) (work n d : List ℕ) (goal : ℕ) → (put_at s work n d goal).answer.number ≢ 0 → Same (put_at s work n d goal) work
   pub of_remove : (s : Session) (work n : List ℕ) → (remove s work n).answer.number ≢ 0 → Same (remove s work n) work
   pub of_get : (s : Session) (work n out : List ℕ) → (get s work n out).answer.number ≢ 0 → SameOut (get s work n out) out

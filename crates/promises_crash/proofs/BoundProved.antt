@@ -1,4 +1,5 @@
 -- The bounds on the writes of sync and unmount, proved of every history: the closer one, and from it that of document 02. Assumes nothing.
+use Rattle.std.specs.Prelude.{Some, None}
 use mathlib.Core.Path.{◌≡◌, refl}
 use mathlib.Core.Bool.{Bool, true, false}
 use mathlib.Core.List.{List}
@@ -9,8 +10,7 @@ use Rattle.words_sums.specs.Sums.{bit}
 use Rattle.words_sums.proofs.SumLaws.{total-zero, total-one, total-le}
 use Rattle.counts.specs.Geometry.{g_p}
 use Rattle.card.specs.Plan.{refused}
-use Rattle.session.specs.declared.Session.{Session}
-use Rattle.session.specs.declared.Session.TheVariants.{Closed, Open}
+use Rattle.session.specs.Session.{Session}
 use Rattle.store.specs.Sync.{sync, unmount}
 use Rattle.promises_answers.specs.PlainList.{Item}
 use Rattle.promises_crash.specs.History.{Pending}
@@ -29,27 +29,27 @@ use Rattle.promises_crash.proofs.FewDiffer.{few-differ}
 
 sync-closer : (o : Session) (card work : List ℕ) (p : Pending) (m : List Item) (M : Marks) → InvOf o (mk card work o p m) → Touched o p M
     → (sync o card work).answer.count ≤ closer_of M o
-sync-closer Closed card work p m M h T = unfold sync refused in omega arith
-sync-closer (Open s) card work p m M h T = go (ℕ_discrete (sync (Open s) card work).answer.number 0)
+sync-closer None card work p m M h T = unfold sync refused in omega arith
+sync-closer (Some s) card work p m M h T = go (ℕ_discrete (sync (Some s) card work).answer.number 0)
   where
-    go : Dec ((sync (Open s) card work).answer.number ≡ 0) → (sync (Open s) card work).answer.count ≤ closer_of M (Open s)
-    go (no o) = omega (arith, (refusals.of_sync (Open s) card work o).3)
+    go : Dec ((sync (Some s) card work).answer.number ≡ 0) → (sync (Some s) card work).answer.count ≤ closer_of M (Some s)
+    go (no o) = omega (arith, (refusals.of_sync (Some s) card work o).3)
     go (yes z) =
-        let V₀ = to-live s (mk card work (Open s) p m) (sync-not-worn s card work z) h in
+        let V₀ = to-live s (mk card work (Some s) p m) (sync-not-worn s card work z) h in
         unfold closer_of in omega (arith, counts.of_sync s card work z, few-differ s card work p m V₀ M T)
 
 -- ---- unmount
 
 unmount-closer : (o : Session) (card work : List ℕ) (p : Pending) (m : List Item) (M : Marks) → InvOf o (mk card work o p m) → Touched o p M
     → (unmount o card work).answer.count ≤ closer_of M o
-unmount-closer Closed card work p m M h T = unfold unmount refused in omega arith
-unmount-closer (Open s) card work p m M h T = go (ℕ_discrete (unmount (Open s) card work).answer.number 0) s.worn refl
+unmount-closer None card work p m M h T = unfold unmount refused in omega arith
+unmount-closer (Some s) card work p m M h T = go (ℕ_discrete (unmount (Some s) card work).answer.number 0) s.worn refl
   where
-    go : Dec ((unmount (Open s) card work).answer.number ≡ 0) → (b : Bool) → s.worn ≡ b → (unmount (Open s) card work).answer.count ≤ closer_of M (Open s)
-    go (no o) b w = omega (arith, (refusals.of_unmount (Open s) card work o).3)
+    go : Dec ((unmount (Some s) card work).answer.number ≡ 0) → (b : Bool) → s.worn ≡ b → (unmount (Some s) card work).answer.count ≤ closer_of M (Some s)
+    go (no o) b w = omega (arith, (refusals.of_unmount (Some s) card work o).3)
     go (yes z) true w = omega (arith, counts.of_worn s card work w)
     go (yes z) false w =
-        let V₀ = to-live s (mk card work (Open s) p m) w h in
+        let V₀ = to-live s (mk card work (Some s) p m) w h in
         unfold closer_of in omega (arith, counts.of_unmount s card work w z, few-differ s card work p m V₀ M T)
 
 -- ---- it is closer
@@ -64,8 +64,8 @@ counted-all f n = omega (arith, total-le (λ i. bit (f i)) (λ i. 1) n (λ i l. 
 
 closer-within : (o : Session) (M : Marks) (c : ℕ) → Few M c → closer_of M o ≤ c + pairs_of o + 2
 unfolding closer_of pairs_of
-closer-within Closed M c F = omega arith
-closer-within (Open s) M c F = omega (arith, F.few s.geo.s, counted-all M.pages (g_p s.geo), one (some_of M.pages (g_p s.geo)))
+closer-within None M c F = omega arith
+closer-within (Some s) M c F = omega (arith, F.few s.geo.s, counted-all M.pages (g_p s.geo), one (some_of M.pages (g_p s.geo)))
   where
     one : (b : Bool) → bit b ≤ 1
     one true = omega arith
@@ -78,8 +78,8 @@ none-some (suc n) = rw (none-some n)
 
 closer-none : (o : Session) → closer_of no_marks o ≤ 1
 unfolding closer_of counted
-closer-none Closed = omega arith
-closer-none (Open s) = rw (none-some (g_p s.geo)) (omega (arith, total-zero s.geo.s, total-zero (g_p s.geo)))
+closer-none None = omega arith
+closer-none (Some s) = rw (none-some (g_p s.geo)) (omega (arith, total-zero s.geo.s, total-zero (g_p s.geo)))
 
 -- ---- every history
 
@@ -93,8 +93,8 @@ closer =
 
 -- a sync that gives 0 writes the table sector
 sync-some : (o : Session) (card work : List ℕ) → (sync o card work).answer.number ≡ 0 → 1 ≤ (sync o card work).answer.count
-sync-some Closed card work z = absurd (unfold sync refused in omega (arith, z))
-sync-some (Open s) card work z = omega (arith, counts.of_sync s card work z)
+sync-some None card work z = absurd (unfold sync refused in omega (arith, z))
+sync-some (Some s) card work z = omega (arith, counts.of_sync s card work z)
 
 pub bounds : Bounds
 bounds =

@@ -1,4 +1,5 @@
 -- Sync and unmount leave what document 01's leave, and count the sectors that differ and the table sector. Assumes nothing.
+use Rattle.std.specs.Prelude.{Some, None}
 use mathlib.Core.Path.{◌≡◌, refl, sym, ap, ◌∙◌}
 use mathlib.Core.Bool.{Bool, true, false}
 use mathlib.Core.List.{List, []}
@@ -16,8 +17,7 @@ use Rattle.counts.proofs.GeoLaws.{limits}
 use Rattle.card.specs.Plan.{Plan, refuse, do_it, go_ahead, ended, refused, done}
 use Rattle.card.proofs.PlanLaws.{Num, ahead!, guard-num, passing}
 use Rattle.session.specs.declared.Opened.{Opened}
-use Rattle.session.specs.declared.Session.{Session}
-use Rattle.session.specs.declared.Session.TheVariants.{Closed, Open}
+use Rattle.session.specs.Session.{Session}
 use Rattle.session.proofs.FitLaws.{Fit, fit-inv}
 use Rattle.store.specs.Steps.{past_table, table_steps, sync_steps, counted_by, unmount_count}
 use Rattle.store.specs.Mount.{Ended}
@@ -36,14 +36,14 @@ alike-plan (do_it j i) stop a b h = h j i
 
 sync-alike : (o : Session) (card work : List ℕ) → Alike (sync o card work) (full_sync o card work)
 unfolding sync full_sync
-sync-alike Closed card work = record { number = refl; session = refl; card = refl; work = refl }
-sync-alike (Open s) card work =
+sync-alike None card work = record { number = refl; session = refl; card = refl; work = refl }
+sync-alike (Some s) card work =
     alike-plan _ _ _ _ (λ j i. (unfold sync_done done in record { number = refl; session = refl; card = sync-same-card s card work []; work = refl }))
 
 unmount-alike : (o : Session) (card work : List ℕ) → Alike (unmount o card work) (full_unmount o card work)
 unfolding unmount full_unmount
-unmount-alike Closed card work = record { number = refl; session = refl; card = refl; work = refl }
-unmount-alike (Open s) card work =
+unmount-alike None card work = record { number = refl; session = refl; card = refl; work = refl }
+unmount-alike (Some s) card work =
     alike-plan _ _ _ _ (λ j i. (unfold unmount_done done in record { number = refl; session = refl; card = down-same-card s card work; work = refl }))
 
 pub as_before : AsBefore
@@ -122,33 +122,33 @@ counts-plan : {p : Plan} (stop : ℕ → Ended) (on : ℕ → Sector → Ended) 
     → (ended p stop on).answer.number ≡ 0 → (ended p stop on).answer.count ≡ n
 counts-plan stop on n q e f = passing (λ r. r.answer.number ≡ 0 → r.answer.count ≡ n) stop on q (λ k h. absurd (omega (arith, e (suc k)))) (λ j a x h. f j a x)
 
-of-sync : (s : Opened) (card work : List ℕ) → (sync (Open s) card work).answer.number ≡ 0 → (sync (Open s) card work).answer.count ≡ differing s.geo card work + 1
+of-sync : (s : Opened) (card work : List ℕ) → (sync (Some s) card work).answer.number ≡ 0 → (sync (Some s) card work).answer.count ≡ differing s.geo card work + 1
 unfolding sync sync_done refused done
 of-sync s card work =
     counts-plan _ _ _ (both-num s card work (guard-num 8 _ ahead!)) (λ k. refl)
     (λ j a e. sync-count s card work (in-limits s work (sync-live s card work e).0))
 
 -- a sync that gives 0 is not of a worn session
-pub sync-not-worn : (s : Opened) (card work : List ℕ) → (sync (Open s) card work).answer.number ≡ 0 → s.worn ≡ false
+pub sync-not-worn : (s : Opened) (card work : List ℕ) → (sync (Some s) card work).answer.number ≡ 0 → s.worn ≡ false
 unfolding sync refused
 sync-not-worn s card work =
     passing (λ (r : Ended). r.answer.number ≡ 0 → s.worn ≡ false) _ _ (both-num s card work (guard-num 8 _ ahead!)) (λ k h. absurd (omega (arith, h)))
     (λ j a e h. (sync-live s card work e).1)
 
-of-unmount : (s : Opened) (card work : List ℕ) → s.worn ≡ false → (unmount (Open s) card work).answer.number ≡ 0 → (unmount (Open s) card work).answer.count ≡ differing s.geo card work + 1
+of-unmount : (s : Opened) (card work : List ℕ) → s.worn ≡ false → (unmount (Some s) card work).answer.number ≡ 0 → (unmount (Some s) card work).answer.count ≡ differing s.geo card work + 1
 unfolding unmount unmount_done unmount_count counted_by refused done
 of-unmount s card work live =
     counts-plan _ _ _ (both-num s card work ahead!) (λ k. refl)
     (λ j a e. ap (λ (b : Bool). counted_by b s card work) live ∙ sync-count s card work (in-limits s work (fit-inv s work (both-inv s card work _ e).0)))
 
-of-worn : (s : Opened) (card work : List ℕ) → s.worn ≡ true → (unmount (Open s) card work).answer.count ≡ 0
+of-worn : (s : Opened) (card work : List ℕ) → s.worn ≡ true → (unmount (Some s) card work).answer.count ≡ 0
 unfolding unmount refused
 of-worn s card work w = go (both_plan s card work go_ahead)
   where
     zero-count : (unmount_done s card work).answer.count ≡ 0
     zero-count = unfold unmount_done done unmount_count in (ap (λ (b : Bool). counted_by b s card work) w ∙ (unfold counted_by in refl))
 
-    go : (p : Plan) → (ended {A = Ended} p (λ k. record { answer = refused k; session = Open s; card = card; work = work }) (λ j a. unmount_done s card work)).answer.count ≡ 0
+    go : (p : Plan) → (ended {A = Ended} p (λ k. record { answer = refused k; session = Some s; card = card; work = work }) (λ j a. unmount_done s card work)).answer.count ≡ 0
     go (refuse k) = unfold ended refused in refl
     go (do_it j a) = unfold ended in zero-count
 

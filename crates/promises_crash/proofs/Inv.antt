@@ -1,4 +1,5 @@
 -- The invariant of histories, and what every cut of a world that has it reads. Assumes nothing.
+use Rattle.std.specs.Prelude.{Some, None}
 use mathlib.Core.Path.{◌≡◌, refl, sym}
 use mathlib.Core.Bool.{Bool, true, false}
 use mathlib.Core.List.{List}
@@ -8,8 +9,7 @@ use Rattle.sectors.specs.Sectors.{sec}
 use Rattle.counts.specs.declared.Geo.{Geo}
 use Rattle.counts.specs.Geometry.{geo_of}
 use Rattle.session.specs.declared.Opened.{Opened}
-use Rattle.session.specs.declared.Session.{Session}
-use Rattle.session.specs.declared.Session.TheVariants.{Closed, Open}
+use Rattle.session.specs.Session.{Session}
 use Rattle.promises_answers.specs.PlainList.{Item, shown_by}
 use Rattle.promises_crash.specs.History.{Pending, Left, World, after_cut, Reads}
 use Rattle.promises_crash.proofs.Play.{top-mem}
@@ -25,8 +25,8 @@ OpenInv true s w = Worn s.geo w.card w.work w.pending w.last
 OpenInv false s w = Live s w.card w.work w.pending w.last
 
 abbrev pub InvOf : Session → World → Type 0
-InvOf Closed w = (g : Geo) × AtRest g w.card w.pending w.last
-InvOf (Open s) w = OpenInv s.worn s w
+InvOf None w = (g : Geo) × AtRest g w.card w.pending w.last
+InvOf (Some s) w = OpenInv s.worn s w
 
 abbrev pub Inv : World → Type 0
 Inv w = InvOf w.session w
@@ -49,8 +49,8 @@ open-reads true s w h card c = calm-reads s.geo w.card w.pending w.last h.rest.c
 open-reads false s w h card c = rw (sym h.shows) (keeps-reads s h.img₀ w.pending h.base h.geo h.keeps card (rw h.sized at c))
 
 of-reads : (s : Session) (w : World) → InvOf s w → (card : List ℕ) → Left w.pending (length w.card) card → Reads card w.last
-of-reads Closed w h card c = calm-reads h.0 w.card w.pending w.last h.1.calm card (rw h.1.calm.is.sized at c)
-of-reads (Open s) w h card c = open-reads s.worn s w h card c
+of-reads None w h card c = calm-reads h.0 w.card w.pending w.last h.1.calm card (rw h.1.calm.is.sized at c)
+of-reads (Some s) w h card c = open-reads s.worn s w h card c
 
 pub inv-reads : (w : World) → Inv w → (card : List ℕ) → Left w.pending (length w.card) card → Reads card w.last
 inv-reads w h card c = of-reads w.session w h card c
@@ -62,8 +62,8 @@ open-left true s w h = record { sized = refl; held = λ j l. top-mem (w.pending 
 open-left false s w h = record { sized = refl; held = λ j l. h.may j }
 
 of_left : (s : Session) (w : World) → InvOf s w → Left w.pending (length w.card) w.card
-of_left Closed w h = record { sized = refl; held = λ j l. top-mem (w.pending j) (h.1.top j) }
-of_left (Open s) w h = open-left s.worn s w h
+of_left None w h = record { sized = refl; held = λ j l. top-mem (w.pending j) (h.1.top j) }
+of_left (Some s) w h = open-left s.worn s w h
 
 pub inv_left : (w : World) → Inv w → Left w.pending (length w.card) w.card
 inv_left w h = of_left w.session w h

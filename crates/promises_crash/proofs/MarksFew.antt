@@ -1,4 +1,5 @@
 -- No more sectors are marked than the puts and removes since the latest sync or mount wrote, and with no change none. Assumes nothing.
+use Rattle.std.specs.Prelude.{Some, None}
 use mathlib.Core.Path.{◌≡◌, refl}
 use mathlib.Core.Bool.{Bool, true, false, ◌&&◌, ◌||◌}
 use mathlib.Core.List.{List}
@@ -16,8 +17,7 @@ use Rattle.directory.specs.Directory.{spot_of}
 use Rattle.card.specs.Plan.{Plan, ended, refused, done, Changed}
 use Rattle.card.proofs.PlanLaws.{Num}
 use Rattle.session.specs.declared.Opened.{Opened}
-use Rattle.session.specs.declared.Session.{Session}
-use Rattle.session.specs.declared.Session.TheVariants.{Closed, Open}
+use Rattle.session.specs.Session.{Session}
 use Rattle.store.specs.Edit.{put_work, put_at, remove_work, remove}
 use Rattle.store.proofs.Plans.{put-num, remove-num}
 use Rattle.promises_crash.specs.History.{World, by_number, Call, make_c, mount_c, sync_c, unmount_c, put_c, remove_c, land_c, get_c, list_c, free_c, Reach, fresh, call, cut, cut_in}
@@ -76,13 +76,13 @@ few-plan s work k c M q on z F =
 
 few-put : (o : Session) (work n d : List ℕ) (goal c : ℕ) (M : Marks) → Few M c → Few (put_marks o work n d goal M) (by_number (put_at o work n d goal).answer.number (sectors_for (length d) + 1 + c) c)
 unfolding put_marks put_at refused done by_number
-few-put Closed work n d goal c M F = F
-few-put (Open s) work n d goal c M F = few-plan s work (sectors_for (length d)) c M (put-num s work n d goal) (λ j a. record { answer = done 0; image = put_work s j a work n d }) (λ j a. refl) F
+few-put None work n d goal c M F = F
+few-put (Some s) work n d goal c M F = few-plan s work (sectors_for (length d)) c M (put-num s work n d goal) (λ j a. record { answer = done 0; image = put_work s j a work n d }) (λ j a. refl) F
 
 few-remove : (o : Session) (work n : List ℕ) (c : ℕ) (M : Marks) → Few M c → Few (remove_marks o work n M) (by_number (remove o work n).answer.number (1 + c) c)
 unfolding remove_marks remove refused done by_number
-few-remove Closed work n c M F = F
-few-remove (Open s) work n c M F = few-plan s work 0 c M (remove-num s work n) (λ j a. record { answer = done 0; image = remove_work s j work n }) (λ j a. refl) F
+few-remove None work n c M F = F
+few-remove (Some s) work n c M F = few-plan s work 0 c M (remove-num s work n) (λ j a. record { answer = done 0; image = remove_work s j work n }) (λ j a. refl) F
 
 -- a sync or unmount
 few-anew : (number c : ℕ) (M : Marks) → Few M c → Few (by_number number no_marks M) (by_number number 0 c)

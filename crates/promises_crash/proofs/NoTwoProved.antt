@@ -1,4 +1,5 @@
 -- What NoTwo states, proved. Assumes nothing.
+use Rattle.std.specs.Prelude.{Some, None}
 use mathlib.Core.Path.{◌≡◌, refl}
 use mathlib.Core.Bool.{Bool, true, false, not, ◌&&◌}
 use mathlib.Core.List.{List, [], ◌∷◌}
@@ -13,8 +14,7 @@ use Rattle.sectors.specs.Sectors.{sec}
 use Rattle.counts.specs.Geometry.{geo_ok, geo_of}
 use Rattle.counts.proofs.GeoLaws.{limits}
 use Rattle.card.specs.Means.{Sound}
-use Rattle.session.specs.declared.Session.{Session}
-use Rattle.session.specs.declared.Session.TheVariants.{Closed, Open}
+use Rattle.session.specs.Session.{Session}
 use Rattle.session.proofs.FitMeansProved.{fits-mean}
 use Rattle.store.specs.Inner.{FitOf}
 use Rattle.promises_answers.specs.Numbers.{Row, row, Gives, Exactly, Misshapen, closed, of_card, unfit, make_rows, mount_rows, put_at_rows, remove_rows, get_rows, list_rows, free_rows, land_rows, sync_rows, unmount_rows, read_rows, read_list_rows, read_get_rows}
@@ -40,9 +40,9 @@ lacks k (r ∷ rows) h (inr g) = lacks k rows (both (not (eqb k r.number)) _ h).
 -- the row of 2 is not due, and no other row has the number
 fitting : (s : Session) (work : List ℕ) (rows : List Row) → FitOf s work → other 2 rows ≡ true → ¬ Gives (closed s ∷ unfit s work ∷ rows) 2
 fitting s work rows f l (inl g) = omega (arith, g.1)
-fitting Closed work rows f l (inr g) = g.0 refl
-fitting (Open s) work rows f l (inr (n, inl g)) = g.0 ((fits-mean s work).0 f)
-fitting (Open s) work rows f l (inr (n, inr g)) = lacks 2 rows l g.1
+fitting None work rows f l (inr g) = g.0 refl
+fitting (Some s) work rows f l (inr (n, inl g)) = g.0 ((fits-mean s work).0 f)
+fitting (Some s) work rows f l (inr (n, inr g)) = lacks 2 rows l g.1
 
 fitting-card : (s : Session) (card work : List ℕ) (rows : List Row) → FitOf s work → other 2 rows ≡ true → ¬ Gives (closed s ∷ of_card s card ∷ unfit s work ∷ rows) 2
 fitting-card s card work rows f l (inl g) = omega (arith, g.1)

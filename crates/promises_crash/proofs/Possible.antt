@@ -1,4 +1,5 @@
 -- Demand 3 is not empty: between any two steps of any call the card as it is then is one of those that a cut may leave. Assumes nothing.
+use Rattle.std.specs.Prelude.{Some, None}
 use mathlib.Core.Path.{◌≡◌, refl}
 use mathlib.Core.Bool.{Bool, true, false}
 use mathlib.Core.List.{List, [], ◌∷◌, Memᴰ}
@@ -15,8 +16,7 @@ use Rattle.counts.proofs.GeoLaws.{limits}
 use Rattle.card.specs.Plan.{refused, done}
 use Rattle.card.proofs.PlanLaws.{ahead!, guard-num}
 use Rattle.session.specs.declared.Opened.{Opened}
-use Rattle.session.specs.declared.Session.{Session}
-use Rattle.session.specs.declared.Session.TheVariants.{Closed, Open}
+use Rattle.session.specs.Session.{Session}
 use Rattle.session.proofs.FitLaws.{Fit, fit-inv}
 use Rattle.store.specs.Steps.{set_count, set_word, mount_steps, sync_steps, at_top, down_steps, unmount_steps_by, unmount_steps}
 use Rattle.store.specs.Mount.{Ended, mount_done, mount}
@@ -70,11 +70,11 @@ mount-can card p m K few =
     here wd pos j (no o) =
         rw (written-there 0 x p j o, K.top j) (Memᴰ.head (set_there (geo_of (sec card)).s card x 0 K.calm.is.sized pos wd j o))
 
-mount-lefts : (g : Geo) (card work : List ℕ) (p : Pending) (m : List Item) → AtRest g card p m → Lefts card p (steps_of mount_c (mk card work Closed p m))
+mount-lefts : (g : Geo) (card work : List ℕ) (p : Pending) (m : List Item) → AtRest g card p m → Lefts card p (steps_of mount_c (mk card work None p m))
 unfolding steps_of mount refused
 mount-lefts g card work p m K =
     steps-plan (λ (r : Ended). r.answer.number) (Lefts card p) _ _ (mount_steps card) (λ k. refl) (mount-num card work)
-    (none card p (inv_left (mk card work Closed p m) (g, K)))
+    (none card p (inv_left (mk card work None p m) (g, K)))
     (λ j a e. finish (mount-few card work j a e))
   where
     finish : count_of (sec card) < g_n (geo_of (sec card)) → Lefts card p (by_number (mount_done card).answer.number (mount_steps card) [])
@@ -83,8 +83,8 @@ mount-lefts g card work p m K =
 mount-left : (s : Session) (card work : List ℕ) (p : Pending) (m : List Item) → InvOf s (mk card work s p m)
     → Lefts card (before mount_c (mk card work s p m)).pending (steps_of mount_c (before mount_c (mk card work s p m)))
 unfolding before end_open
-mount-left Closed card work p m h = mount-lefts h.0 card work p m h.1
-mount-left (Open s) card work p m h = over (inv-calm card work m (inv-reads (mk card work (Open s) p m) h card (inv_left (mk card work (Open s) p m) h)))
+mount-left None card work p m h = mount-lefts h.0 card work p m h.1
+mount-left (Some s) card work p m h = over (inv-calm card work m (inv-reads (mk card work (Some s) p m) h card (inv_left (mk card work (Some s) p m) h)))
   where
     over : Inv (after_cut card work) → Lefts card (after_cut card work).pending (steps_of mount_c (after_cut card work))
     over k = unfold after_cut in mount-lefts k.0 card work (settled card) _ k.1
@@ -97,17 +97,17 @@ now-can s work F live = top-can s.geo.s _ _ (sync-length s work F live) (λ j. r
 
 sync-left : (s : Session) (card work : List ℕ) (p : Pending) (m : List Item) → InvOf s (mk card work s p m) → Lefts card p (steps_of sync_c (mk card work s p m))
 unfolding steps_of sync refused syncs_by by_number
-sync-left Closed card work p m h = none card p (inv_left (mk card work Closed p m) h)
-sync-left (Open s) card work p m h =
+sync-left None card work p m h = none card p (inv_left (mk card work None p m) h)
+sync-left (Some s) card work p m h =
     steps-plan (λ (r : Ended). r.answer.number) (Lefts card p) _ _ (sync_steps s card work []) (λ k. refl) (both-num s card work (guard-num 8 _ ahead!))
-    (none card p (inv_left (mk card work (Open s) p m) h)) (λ j a e. let (F, live) = sync-live s card work e in finish F live)
+    (none card p (inv_left (mk card work (Some s) p m) h)) (λ j a e. let (F, live) = sync-live s card work e in finish F live)
   where
     finish : Fit s work → s.worn ≡ false → Lefts card p (by_number (sync_done s card work).answer.number (sync_steps s card work []) [])
     finish F live =
         unfold sync_done done by_number in
-        lefts s.geo.s card p (sync_steps s card work []) (sync-can s card work p m (to-live s (mk card work (Open s) p m) live h) F live [] (can-nil s.geo.s _ _ (now-can s work F live)))
+        lefts s.geo.s card p (sync_steps s card work []) (sync-can s card work p m (to-live s (mk card work (Some s) p m) live h) F live [] (can-nil s.geo.s _ _ (now-can s work F live)))
 
-unmount-can : (b : Bool) (s : Opened) (card work : List ℕ) (p : Pending) (m : List Item) → s.worn ≡ b → OpenInv b s (mk card work (Open s) p m) → Fit s work
+unmount-can : (b : Bool) (s : Opened) (card work : List ℕ) (p : Pending) (m : List Item) → s.worn ≡ b → OpenInv b s (mk card work (Some s) p m) → Fit s work
     → Left p (length card) card → Lefts card p (unmount_steps_by b s card work)
 unfolding unmount_steps_by
 unmount-can true s card work p m e W F l = none card p l
@@ -125,13 +125,13 @@ unmount-can false s card work p m e V₀ F l = lefts s.geo.s card p _ (sync-can 
 
 unmount-left : (s : Session) (card work : List ℕ) (p : Pending) (m : List Item) → InvOf s (mk card work s p m) → Lefts card p (steps_of unmount_c (mk card work s p m))
 unfolding steps_of unmount refused unmounts_by by_number
-unmount-left Closed card work p m h = none card p (inv_left (mk card work Closed p m) h)
-unmount-left (Open s) card work p m h =
+unmount-left None card work p m h = none card p (inv_left (mk card work None p m) h)
+unmount-left (Some s) card work p m h =
     steps-plan (λ (r : Ended). r.answer.number) (Lefts card p) _ _ (unmount_steps s card work) (λ k. refl) (both-num s card work ahead!)
-    (none card p (inv_left (mk card work (Open s) p m) h)) (λ j a e. finish (fit-inv s work (both-inv s card work _ e).0))
+    (none card p (inv_left (mk card work (Some s) p m) h)) (λ j a e. finish (fit-inv s work (both-inv s card work _ e).0))
   where
     finish : Fit s work → Lefts card p (by_number (unmount_done s card work).answer.number (unmount_steps s card work) [])
-    finish F = unfold unmount_done unmount_steps done by_number in unmount-can s.worn s card work p m refl h F (inv_left (mk card work (Open s) p m) h)
+    finish F = unfold unmount_done unmount_steps done by_number in unmount-can s.worn s card work p m refl h F (inv_left (mk card work (Some s) p m) h)
 
 -- ---- every call
 

@@ -1,4 +1,5 @@
 -- What Sharp states, proved. Assumes nothing.
+use Rattle.std.specs.Prelude.{Some}
 use mathlib.Core.Path.{◌≡◌, refl, sym, ap, ◌∙◌, subst}
 use mathlib.Core.Bool.{Bool, true, false}
 use mathlib.Core.List.{List, []}
@@ -8,8 +9,7 @@ use lib.ListN.{length, take}
 use lib.Seq.{take-append-add}
 use Rattle.sectors.specs.Sectors.{Step}
 use Rattle.session.specs.declared.Opened.{Opened}
-use Rattle.session.specs.declared.Session.{Session}
-use Rattle.session.specs.declared.Session.TheVariants.{Open}
+use Rattle.session.specs.Session.{Session}
 use Rattle.session.proofs.FitLaws.{Fit, fit-inv}
 use Rattle.store.specs.Steps.{set_word, sync_steps, at_top, down_steps, unmount_steps_by, unmount_steps}
 use Rattle.store.proofs.SyncFewer.{sync-append}
@@ -36,7 +36,7 @@ module _ (s : Opened) (card work : List ℕ) (p : Pending) (m : List Item) (V₀
   new_work = set_word s.c.0 s.t.0 work
 
   -- the cuts behind the sync
-  behind : (b : Bool) → at_top s ≡ b → (k : ℕ) (c : List ℕ) → Left (play (take k (down_steps b s new_work)) (settled new_work)) (512 * s.geo.s) c → Reads c (shown_in (Open s) work)
+  behind : (b : Bool) → at_top s ≡ b → (k : ℕ) (c : List ℕ) → Left (play (take k (down_steps b s new_work)) (settled new_work)) (512 * s.geo.s) c → Reads c (shown_in (Some s) work)
   unfolding down_steps play
   behind true q zero c x = calm-reads s.geo new_work (settled new_work) _ (new-rests s card work p m V₀ F live).calm c x
   behind true q (suc k) c x = calm-reads s.geo new_work (settled new_work) _ (new-rests s card work p m V₀ F live).calm c x
@@ -44,7 +44,7 @@ module _ (s : Opened) (card work : List ℕ) (p : Pending) (m : List Item) (V₀
   behind false q (suc zero) c x = calm-reads s.geo _ _ _ (down-calm s card work p m V₀ F live (not_top s F.tx q)) c x
   behind false q (suc (suc k)) c x = calm-reads s.geo _ _ _ (down-calm s card work p m V₀ F live (not_top s F.tx q)) c x
 
-  sharp : (n : ℕ) → length (sync_steps s card work []) ≤ n → (c : List ℕ) → Left (play (take n (unmount_steps s card work)) p) (512 * s.geo.s) c → Reads c (shown_in (Open s) work)
+  sharp : (n : ℕ) → length (sync_steps s card work []) ≤ n → (c : List ℕ) → Left (play (take n (unmount_steps s card work)) p) (512 * s.geo.s) c → Reads c (shown_in (Some s) work)
   sharp n h c x = behind (at_top s) refl k c (rw (steps, e, take-sync s card work k down, sync-play s card work p m V₀ F live (take k down)) at x)
     where
       down : List Step
@@ -60,19 +60,19 @@ module _ (s : Opened) (card work : List ℕ) (p : Pending) (m : List Item) (V₀
       steps = unfold unmount_steps unmount_steps_by in ap (λ (x : Bool). unmount_steps_by x s card work) live
 
 -- at a world of a history
-sharp-at : (s : Opened) (card work : List ℕ) (p : Pending) (m : List Item) → Reach (mk card work (Open s) p m) → s.worn ≡ false
-    → (unmount (Open s) card work).answer.number ≡ 0 → (n : ℕ) → length (sync_steps s card work []) ≤ n → (c : List ℕ)
-    → Left (pending_in unmount_c n (mk card work (Open s) p m)) (length card) c → Reads c (shown_in (Open s) work)
+sharp-at : (s : Opened) (card work : List ℕ) (p : Pending) (m : List Item) → Reach (mk card work (Some s) p m) → s.worn ≡ false
+    → (unmount (Some s) card work).answer.number ≡ 0 → (n : ℕ) → length (sync_steps s card work []) ≤ n → (c : List ℕ)
+    → Left (pending_in unmount_c n (mk card work (Some s) p m)) (length card) c → Reads c (shown_in (Some s) work)
 unfolding pending_in before steps_of unmounts_by by_number
 sharp-at s card work p m r live z n h c x =
-    let V₀ = to-live s (mk card work (Open s) p m) live (inv r) in
+    let V₀ = to-live s (mk card work (Some s) p m) live (inv r) in
     let F = fit-inv s work (always-fits r) in
     sharp s card work p m V₀ F live n h c (rw (z, V₀.sized) at x)
 
 pub unmount-sharp : UnmountSharp
 unmount-sharp w r s e live z n h c x = go w.session e r z x
   where
-    go : (o : Session) → o ≡ Open s → Reach (mk w.card w.work o w.pending w.last) → (unmount o w.card w.work).answer.number ≡ 0
+    go : (o : Session) → o ≡ Some s → Reach (mk w.card w.work o w.pending w.last) → (unmount o w.card w.work).answer.number ≡ 0
         → Left (pending_in unmount_c n (mk w.card w.work o w.pending w.last)) (length w.card) c → Reads c (shown_in o w.work)
     go o q r z x =
         subst (λ (o : Session). Reach (mk w.card w.work o w.pending w.last) → (unmount o w.card w.work).answer.number ≡ 0

@@ -1,4 +1,5 @@
 -- What Steady states, proved. Assumes nothing.
+use Rattle.std.specs.Prelude.{Some, None}
 use mathlib.Core.Path.{◌≡◌, refl, ap, ◌∙◌}
 use mathlib.Core.Bool.{true, false}
 use mathlib.Core.List.{List, []}
@@ -16,7 +17,6 @@ use Rattle.card.proofs.FreshLaws.{fresh-empty}
 use Rattle.card.specs.Reading.{files_in, files_shown}
 use Rattle.card.proofs.SoundLaws.{shape-inv}
 use Rattle.session.specs.declared.Opened.{Opened}
-use Rattle.session.specs.declared.Session.TheVariants.{Closed, Open}
 use Rattle.session.proofs.FitLaws.{Fit}
 use Rattle.store.specs.Steps.{mount_steps, sync_work, at_top}
 use Rattle.store.specs.Mount.{Ended, opened_from, mount_done, mount}
@@ -83,17 +83,17 @@ make-shows g card h =
     empty : geo_ok g ≡ true → shown_by (fresh_card g) ≡ []
     empty ok = unfold shown_by items in rw (fresh-empty g ok)
 
-sync-done : (s : Opened) (work : List ℕ) → Fit s work → s.worn ≡ false → shown_in (Open (grown (at_top s) s)) (sync_work s work) ≡ shown_in (Open s) work
+sync-done : (s : Opened) (work : List ℕ) → Fit s work → s.worn ≡ false → shown_in (Some (grown (at_top s) s)) (sync_work s work) ≡ shown_in (Some s) work
 sync-done s work F live = rest-shows s (sync_work s work) (sync-rest s work F live) (at_top s) ∙ (unfold sync_work in sync-shows s work F live)
 
 pub sync-same : SyncShows
 unfolding sync refused
-sync-same Closed card work h = refl
-sync-same (Open s) card work h =
-    through (λ (r : Ended). r.answer.number) (λ r. shown_in r.session r.work ≡ shown_in (Open s) work) _ _ (λ k. refl)
+sync-same None card work h = refl
+sync-same (Some s) card work h =
+    through (λ (r : Ended). r.answer.number) (λ r. shown_in r.session r.work ≡ shown_in (Some s) work) _ _ (λ k. refl)
     (both-num s card work (guard-num 8 _ ahead!)) (λ j a e. let (F, live) = sync-live s card work e in (unfold sync_done in sync-done s work F live)) h
 
-mount-done : (card : List ℕ) → shape_ok card ≡ true → sound card ≡ true → count_of (sec card) < g_n (geo_of (sec card)) → shown_in (Open (opened_from card)) (apply_steps (mount_steps card) card) ≡ shown_by card
+mount-done : (card : List ℕ) → shape_ok card ≡ true → sound card ≡ true → count_of (sec card) < g_n (geo_of (sec card)) → shown_in (Some (opened_from card)) (apply_steps (mount_steps card) card) ≡ shown_by card
 unfolding sound shown_by files_shown
 mount-done card x y few =
     rw (mount-up card x y few, opened-is card)

@@ -1,4 +1,5 @@
 -- Which sectors and pages the puts and removes since the latest sync or mount marked: what is not marked may hold one value only. Assumes nothing.
+use Rattle.std.specs.Prelude.{Some, None}
 use mathlib.Core.Path.{◌≡◌, refl, sym, ◌∙◌}
 use mathlib.Core.Bool.{Bool, true, false, ◌&&◌, ◌||◌}
 use mathlib.Core.List.Memᴰ
@@ -18,8 +19,7 @@ use Rattle.directory.specs.Directory.{spot_of}
 use Rattle.apages.specs.Index.{index_in}
 use Rattle.card.specs.Files.{run_at}
 use Rattle.session.specs.declared.Opened.{Opened}
-use Rattle.session.specs.declared.Session.{Session}
-use Rattle.session.specs.declared.Session.TheVariants.{Closed, Open}
+use Rattle.session.specs.Session.{Session}
 use Rattle.session.specs.Views.{present_table}
 use Rattle.session.proofs.FitLaws.{present-live}
 use Rattle.store.specs.Edit.{edit_work}
@@ -42,8 +42,8 @@ pub record Unmarked (s : Opened) (p : Pending) (m : Marks) : Type 0 where
   pub index : ((q : ℕ) → q < g_p s.geo → m.pages q ≡ false) → OneValue (p (s.geo.t + 1))
 
 abbrev pub Touched : Session → Pending → Marks → Type 0
-Touched Closed p m = Unit
-Touched (Open s) p m = Unmarked s p m
+Touched None p m = Unit
+Touched (Some s) p m = Unmarked s p m
 
 -- ---- nothing is pending
 
@@ -57,8 +57,8 @@ one-newest [] x y a b = absurd (Memᴰ.not-nil a)
 one-newest (z ∷ l) x y a b = let e = mem-one a in let f = mem-one b in cc
 
 pub touched_none : (o : Session) (p : Pending) (m : Marks) → ((i : ℕ) → OneValue (p i)) → Touched o p m
-touched_none Closed p m h = tt
-touched_none (Open s) p m h = record { sector = λ i lo z. h i; page = λ q l z. (h _, h _); index = λ z. h _ }
+touched_none None p m h = tt
+touched_none (Some s) p m h = record { sector = λ i lo z. h i; page = λ q l z. (h _, h _); index = λ z. h _ }
 
 -- ---- one change marks its directory sector and its run, and the pages of its run and of the earlier one
 

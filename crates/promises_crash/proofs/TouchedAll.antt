@@ -1,4 +1,5 @@
 -- Every history: what its puts and removes since the latest sync or mount did not mark may hold one value only. Assumes nothing.
+use Rattle.std.specs.Prelude.{Some, None}
 use mathlib.Core.Path.{◌≡◌, refl}
 use mathlib.Core.List.{List, []}
 use Prim.Native.Nat.{ℕ, zero, suc}
@@ -10,8 +11,7 @@ use Rattle.entries.specs.Entries.{sectors_for}
 use Rattle.card.specs.Plan.{Plan, refuse, do_it, ended, refused, done}
 use Rattle.card.proofs.PlanLaws.{Num, no!, go!, ahead!, guard-num, guard-inv, need-inv, passing}
 use Rattle.session.specs.declared.Opened.{Opened}
-use Rattle.session.specs.declared.Session.{Session}
-use Rattle.session.specs.declared.Session.TheVariants.{Closed, Open}
+use Rattle.session.specs.Session.{Session}
 use Rattle.store.specs.Steps.{at_top, sync_steps, mount_steps}
 use Rattle.store.specs.Mount.{Ended, opened_from, mount_done, mount}
 use Rattle.store.specs.Edit.{put_run, put_work, put_at, remove_plan, remove_work, remove}
@@ -40,13 +40,13 @@ by-num P (go! j a) x y = y j a refl
 touched-put : (n d : List ℕ) (goal : ℕ) (o : Session) (card work : List ℕ) (p : Pending) (m : List Item) (M : Marks) → InvOf o (mk card work o p m) → Touched o p M
     → TouchedW (after (put_c n d goal) (mk card work o p m)) (marks_by (put_c n d goal) (mk card work o p m) M)
 unfolding after edited marks_by put_marks marked put_at refused done by_number ended
-touched-put n d goal Closed card work p m M h T = T
-touched-put n d goal (Open s) card work p m M h T =
-    by-num (λ (q : Plan). TouchedW (edited (mk card work (Open s) p m) (ended q (λ k. record { answer = refused k; image = work }) (λ j a. record { answer = done 0; image = put_work s j a work n d })))
+touched-put n d goal None card work p m M h T = T
+touched-put n d goal (Some s) card work p m M h T =
+    by-num (λ (q : Plan). TouchedW (edited (mk card work (Some s) p m) (ended q (λ k. record { answer = refused k; image = work }) (λ j a. record { answer = done 0; image = put_work s j a work n d })))
     (marked s work (sectors_for (length d)) q M))
     (put-num s work n d goal) (λ k. T)
     (λ j a e.
-    let V₀ = to-live s (mk card work (Open s) p m) (put_inv s work n d goal j a e).live h in
+    let V₀ = to-live s (mk card work (Some s) p m) (put_inv s work n d goal j a e).live h in
     unfold put_work in touched-more s j a.0 (sectors_for (length d)) (Present (put_run a d)) card work n d p m (put-ready s work (sec work) refl n d goal j a e) V₀ M T)
 
 -- remove's plan names no sector
@@ -57,13 +57,13 @@ remove-zero s work n j a h = let (i, x, e) = need-inv 6 _ _ (guard-inv 5 _ _ (gu
 touched-remove : (n : List ℕ) (o : Session) (card work : List ℕ) (p : Pending) (m : List Item) (M : Marks) → InvOf o (mk card work o p m) → Touched o p M
     → TouchedW (after (remove_c n) (mk card work o p m)) (marks_by (remove_c n) (mk card work o p m) M)
 unfolding after edited marks_by remove_marks marked remove refused done by_number ended
-touched-remove n Closed card work p m M h T = T
-touched-remove n (Open s) card work p m M h T =
-    by-num (λ (q : Plan). TouchedW (edited (mk card work (Open s) p m) (ended q (λ k. record { answer = refused k; image = work }) (λ j a. record { answer = done 0; image = remove_work s j work n })))
+touched-remove n None card work p m M h T = T
+touched-remove n (Some s) card work p m M h T =
+    by-num (λ (q : Plan). TouchedW (edited (mk card work (Some s) p m) (ended q (λ k. record { answer = refused k; image = work }) (λ j a. record { answer = done 0; image = remove_work s j work n })))
     (marked s work 0 q M))
     (remove-num s work n) (λ k. T)
     (λ j a e.
-    let V₀ = to-live s (mk card work (Open s) p m) (remove-inv s work n j a e).live h in
+    let V₀ = to-live s (mk card work (Some s) p m) (remove-inv s work n j a e).live h in
     rw (remove-zero s work n j a e) (unfold remove_work in touched-more s j 0 0 Absent card work n [] p m (remove-ready s work (sec work) refl n j a e) V₀ M T))
 
 -- ---- mount, sync and unmount begin anew
@@ -73,32 +73,32 @@ one-mount : (card : List ℕ) (p : Pending) (i : ℕ) → OneValue (play (mount_
 unfolding mount_steps play
 one-mount card p i = one-newest _
 
-touched-mount : (card work : List ℕ) (p : Pending) (m : List Item) → TouchedW (stepped (mk card work Closed p m) (mount card work) (steps_of mount_c (mk card work Closed p m)) (shown_by card)) no_marks
+touched-mount : (card work : List ℕ) (p : Pending) (m : List Item) → TouchedW (stepped (mk card work None p m) (mount card work) (steps_of mount_c (mk card work None p m)) (shown_by card)) no_marks
 unfolding stepped steps_of mount mount_done refused done by_number
 touched-mount card work p m =
-    passing (λ (r : Ended). TouchedW (by_number r.answer.number (mk r.card r.work r.session (play (by_number r.answer.number (mount_steps card) []) p) (shown_by card)) (mk card work Closed p m)) no_marks)
+    passing (λ (r : Ended). TouchedW (by_number r.answer.number (mk r.card r.work r.session (play (by_number r.answer.number (mount_steps card) []) p) (shown_by card)) (mk card work None p m)) no_marks)
     _ _ (mount-num card work) (λ k. tt)
-    (λ j a e. touched_none (Open (opened_from card)) (play (mount_steps card) p) no_marks (one-mount card p))
+    (λ j a e. touched_none (Some (opened_from card)) (play (mount_steps card) p) no_marks (one-mount card p))
 
 touched-sync : (o : Session) (card work : List ℕ) (p : Pending) (m : List Item) (M : Marks) → InvOf o (mk card work o p m) → Touched o p M
     → TouchedW (after sync_c (mk card work o p m)) (marks_by sync_c (mk card work o p m) M)
 unfolding after stepped steps_of syncs_by marks_by sync sync_done refused done by_number
-touched-sync Closed card work p m M h T = T
-touched-sync (Open s) card work p m M h T =
-    passing (λ (r : Ended). TouchedW (by_number r.answer.number (mk r.card r.work r.session (play (by_number r.answer.number (sync_steps s card work []) []) p) (shown_in (Open s) work)) (mk card work (Open s) p m))
+touched-sync None card work p m M h T = T
+touched-sync (Some s) card work p m M h T =
+    passing (λ (r : Ended). TouchedW (by_number r.answer.number (mk r.card r.work r.session (play (by_number r.answer.number (sync_steps s card work []) []) p) (shown_in (Some s) work)) (mk card work (Some s) p m))
     (by_number r.answer.number no_marks M))
     _ _ (both-num s card work (guard-num 8 _ ahead!)) (λ k. T)
     (λ j a e.
     let (F, live) = sync-live s card work e in
-    let V₀ = to-live s (mk card work (Open s) p m) live h in
-    touched_none (Open (grown (at_top s) s)) (play (sync_steps s card work []) p) no_marks (λ i. rw (sync-play s card work p m V₀ F live []) (unfold play in one-settled _ i)))
+    let V₀ = to-live s (mk card work (Some s) p m) live h in
+    touched_none (Some (grown (at_top s) s)) (play (sync_steps s card work []) p) no_marks (λ i. rw (sync-play s card work p m V₀ F live []) (unfold play in one-settled _ i)))
 
 touched-unmount : (o : Session) (card work : List ℕ) (p : Pending) (m : List Item) (M : Marks) → Touched o p M
     → TouchedW (after unmount_c (mk card work o p m)) (marks_by unmount_c (mk card work o p m) M)
 unfolding after stepped steps_of unmounts_by marks_by unmount unmount_done refused done by_number
-touched-unmount Closed card work p m M T = T
-touched-unmount (Open s) card work p m M T =
-    passing (λ (r : Ended). TouchedW (by_number r.answer.number (mk r.card r.work r.session (play (by_number r.answer.number (unmounts_by (Open s) card work) []) p) (shown_in (Open s) work)) (mk card work (Open s) p m))
+touched-unmount None card work p m M T = T
+touched-unmount (Some s) card work p m M T =
+    passing (λ (r : Ended). TouchedW (by_number r.answer.number (mk r.card r.work r.session (play (by_number r.answer.number (unmounts_by (Some s) card work) []) p) (shown_in (Some s) work)) (mk card work (Some s) p m))
     (by_number r.answer.number no_marks M))
     _ _ (both-num s card work ahead!) (λ k. T) (λ j a e. tt)
 
@@ -116,8 +116,8 @@ touched-make (suc n) card work w M T = T
 
 touched-open : (o : Session) (card work : List ℕ) (p : Pending) (m : List Item) → TouchedW (after mount_c (mk card work o p m)) no_marks
 unfolding after before end_open after_cut
-touched-open Closed card work p m = touched-mount card work p m
-touched-open (Open s) card work p m = touched-mount card work _ _
+touched-open None card work p m = touched-mount card work p m
+touched-open (Some s) card work p m = touched-mount card work _ _
 
 touched-step : (w : World) (M : Marks) → Inv w → TouchedW w M → (x : Call) → TouchedW (after x w) (marks_by x w M)
 touched-step w M h T (make_c g) = unfold after marks_by in touched-make _ _ _ w M T

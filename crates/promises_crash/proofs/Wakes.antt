@@ -1,4 +1,5 @@
 -- No dead stamp comes to life, at mount or at a sync, proved. Assumes nothing.
+use Rattle.std.specs.Prelude.{Some}
 use mathlib.Core.Path.{◌≡◌, refl, sym, ap, ◌∙◌, subst}
 use mathlib.Core.Bool.{true, false}
 use mathlib.Core.List.{List}
@@ -20,8 +21,7 @@ use Rattle.card.proofs.MeansParts.{limits-mean}
 use Rattle.card.specs.Means.{EachStamp, Alive, DeadBelow, Sound}
 use Rattle.card.proofs.SoundLaws.{shape-inv}
 use Rattle.session.specs.declared.Opened.{Opened}
-use Rattle.session.specs.declared.Session.{Session}
-use Rattle.session.specs.declared.Session.TheVariants.{Open}
+use Rattle.session.specs.Session.{Session}
 use Rattle.session.specs.Views.{present_table, cut_table}
 use Rattle.session.proofs.FitLaws.{fit-table, present-live, present-worn}
 use Rattle.session.specs.FitMeans.{Fits}
@@ -106,13 +106,13 @@ module _ (card work : List ℕ) (z : (mount card work).answer.number ≡ 0) wher
 -- ---- sync
 
 -- what sync has tested
-sync-fits : (s : Opened) (card work : List ℕ) → (sync (Open s) card work).answer.number ≡ 0 → Fits s work
+sync-fits : (s : Opened) (card work : List ℕ) → (sync (Some s) card work).answer.number ≡ 0 → Fits s work
 unfolding sync refused
 sync-fits s card work z =
     through (λ (r : Ended). r.answer.number) (λ r. Fits s work) _ _ (λ k. refl) (both-num s card work (guard-num 8 _ ahead!))
     (λ j a e. (fits-mean s work).0 (both-inv s card work _ e).0) z
 
-module _ (s : Opened) (card work : List ℕ) (z : (sync (Open s) card work).answer.number ≡ 0) where
+module _ (s : Opened) (card work : List ℕ) (z : (sync (Some s) card work).answer.number ≡ 0) where
   F : Fits s work
   F = sync-fits s card work z
 
@@ -121,9 +121,9 @@ module _ (s : Opened) (card work : List ℕ) (z : (sync (Open s) card work).answ
   P = present_table s (sec work)
 
   abbrev synced : List ℕ
-  synced = (sync (Open s) card work).work
+  synced = (sync (Some s) card work).work
 
-  L₁ : SyncLeaves s card work (sync (Open s) card work)
+  L₁ : SyncLeaves s card work (sync (Some s) card work)
   L₁ = sync-changes s card work z
 
   is_set : P ≡ set (table_of s.geo (sec work)) s.c.0 s.t.0
@@ -145,11 +145,11 @@ module _ (s : Opened) (card work : List ℕ) (z : (sync (Open s) card work).answ
   abbrev last : Opened
   last = record { geo = s.geo; c = s.c; t = s.t; worn = true }
 
-  lives-after : (x : Stamp) → (x.cc.0 ≡ s.c.0 → x.txc.0 ≤ s.t.0) → LivesOn P (sync (Open s) card work).session synced x
+  lives-after : (x : Stamp) → (x.cc.0 ≡ s.c.0 → x.txc.0 ≤ s.t.0) → LivesOn P (sync (Some s) card work).session synced x
   unfolding cut_table
   lives-after x m = go (ℕ_discrete s.t.0 max_tx)
     where
-      go : Dec (s.t.0 ≡ max_tx) → LivesOn P (sync (Open s) card work).session synced x
+      go : Dec (s.t.0 ≡ max_tx) → LivesOn P (sync (Some s) card work).session synced x
       go (yes e) =
           subst (λ (o : Session). LivesOn P o synced x) (sym (L₁.wears e))
           (rw (present-worn last (sec synced) refl (ap length new-table ∙ long), new-table) (λ q. q, λ q. q), rw new-table (λ q. q, λ q. q))
@@ -160,8 +160,8 @@ module _ (s : Opened) (card work : List ℕ) (z : (sync (Open s) card work).answ
             rw new-table (λ q. q, λ q. q),
           )
 
-  pub wakes-sync : EachStamp s.geo work (LivesOn P (sync (Open s) card work).session synced)
-  wakes-sync = each-stamp s.geo work (λ x. x.cc.0 ≡ s.c.0 → x.txc.0 ≤ s.t.0) (LivesOn P (sync (Open s) card work).session synced) lives-after F.at_c
+  pub wakes-sync : EachStamp s.geo work (LivesOn P (sync (Some s) card work).session synced)
+  wakes-sync = each-stamp s.geo work (λ x. x.cc.0 ≡ s.c.0 → x.txc.0 ≤ s.t.0) (LivesOn P (sync (Some s) card work).session synced) lives-after F.at_c
 
 -- ---- proved
 

@@ -1,4 +1,5 @@
 -- The calls that only look answer from the plain list, whole; and so after every cut. Assumes nothing.
+use Rattle.std.specs.Prelude.{Some}
 use mathlib.Core.Path.{◌≡◌, refl, sym, ap, subst, ◌∙◌}
 use mathlib.Core.List.{List, ◌++◌}
 use mathlib.Core.Logic.{inl, inr, ⊎_elim}
@@ -17,7 +18,6 @@ use Rattle.card.proofs.FileLaws.{Within, more, files-within}
 use Rattle.card.specs.Means.{GoodName}
 use Rattle.card.specs.Reading.{files_shown, read_list, read_get}
 use Rattle.session.specs.declared.Opened.{Opened}
-use Rattle.session.specs.declared.Session.TheVariants.{Open}
 use Rattle.session.specs.Views.{present_table, present_files}
 use Rattle.session.specs.FitMeans.{Fits}
 use Rattle.store.specs.Look.{get, list}
@@ -79,16 +79,16 @@ module _ (s : Opened) (work : List ℕ) (f : Fits s work) where
   S : SessionShows s work
   S = all-show.0 s work f
 
-  get-bad : (n out : List ℕ) → ¬ GoodName n → get (Open s) work n out ≡ record { answer = refused 5; out = out }
+  get-bad : (n out : List ℕ) → ¬ GoodName n → get (Some s) work n out ≡ record { answer = refused 5; out = out }
   get-bad n out b =
-      let e : (get (Open s) work n out).answer.number ≡ 5 = (numbers.of_get (Open s) work n out 5).1 (inr (λ q. never (cc), inr (λ q. q f, inl (b, refl)))) in
-      got-refused 5 out _ e (refusals.of_get (Open s) work n out (λ z. omega (arith, e, z)))
+      let e : (get (Some s) work n out).answer.number ≡ 5 = (numbers.of_get (Some s) work n out 5).1 (inr (λ q. never (cc), inr (λ q. q f, inl (b, refl)))) in
+      got-refused 5 out _ e (refusals.of_get (Some s) work n out (λ z. omega (arith, e, z)))
 
-  list-short : (lines : List Line) → length lines < length (shown_in (Open s) work) → list (Open s) work lines ≡ record { answer = refused 10; lines = lines }
+  list-short : (lines : List Line) → length lines < length (shown_in (Some s) work) → list (Some s) work lines ≡ record { answer = refused 10; lines = lines }
   list-short lines h =
-      let e : (list (Open s) work lines).answer.number ≡ 10 =
-      (numbers.of_list (Open s) work lines 10).1 (inr (λ q. never (cc), inr (λ q. q f, inl (omega (arith, lines-length S.tells), refl)))) in
-      listed-refused 10 lines _ e (refusals.of_list (Open s) work lines (λ z. omega (arith, e, z)))
+      let e : (list (Some s) work lines).answer.number ≡ 10 =
+      (numbers.of_list (Some s) work lines 10).1 (inr (λ q. never (cc), inr (λ q. q f, inl (omega (arith, lines-length S.tells), refl)))) in
+      listed-refused 10 lines _ e (refusals.of_list (Some s) work lines (λ z. omega (arith, e, z)))
 
   within : Within s.geo (present_files s (sec work))
   unfolding present_files
@@ -96,7 +96,7 @@ module _ (s : Opened) (work : List ℕ) (f : Fits s work) where
       let F = fit-inv s work ((fits-mean s work).1 f) in
       files-within s.geo s.c.0 (present_table s (sec work)) (entries_of s.geo (sec work)) (view-inv s.geo s.c.0 (present_table s (sec work)) (sec work) F.pres_view).entries
 
-  pub looks-as : LooksAs s work (shown_in (Open s) work)
+  pub looks-as : LooksAs s work (shown_in (Some s) work)
   looks-as =
       record {
         names = S.names;

@@ -1,4 +1,5 @@
 -- Every cut inside a call reads as the latest moment or, in a sync or unmount, as what the session showed. Assumes nothing.
+use Rattle.std.specs.Prelude.{Some, None}
 use mathlib.Core.Path.{◌≡◌, refl}
 use mathlib.Core.Bool.{Bool, true, false}
 use mathlib.Core.List.{List, []}
@@ -12,8 +13,7 @@ use Rattle.counts.specs.Geometry.{g_n, geo_of, count_of}
 use Rattle.card.specs.Plan.{Plan, do_it, ended, refused, done}
 use Rattle.card.proofs.PlanLaws.{Num, ahead!, guard-num, passing}
 use Rattle.session.specs.declared.Opened.{Opened}
-use Rattle.session.specs.declared.Session.{Session}
-use Rattle.session.specs.declared.Session.TheVariants.{Closed, Open}
+use Rattle.session.specs.Session.{Session}
 use Rattle.session.proofs.FitLaws.{Fit, fit-inv}
 use Rattle.store.specs.Steps.{set_word, mount_steps, sync_steps, at_top, down_steps, unmount_steps_by, unmount_steps}
 use Rattle.store.specs.Mount.{Ended, mount_done, mount}
@@ -42,7 +42,7 @@ steps-plan number Q stop on steps e q h f = passing (λ r. Q (by_number (number 
 abbrev Old : List ℕ → List Item → Pending → Type 0
 Old card m p = (k : List ℕ) → Left p (length card) k → Reads k m
 
-mount-cuts : (g : Geo) (card work : List ℕ) (p : Pending) (m : List Item) → AtRest g card p m → Every (Old card m) (steps_of mount_c (mk card work Closed p m)) p
+mount-cuts : (g : Geo) (card work : List ℕ) (p : Pending) (m : List Item) → AtRest g card p m → Every (Old card m) (steps_of mount_c (mk card work None p m)) p
 unfolding steps_of mount refused
 mount-cuts g card work p m K₀ =
     steps-plan (λ (r : Ended). r.answer.number) (λ (x : List Step). Every (Old card m) x p) _ _ (mount_steps card) (λ k. refl) (mount-num card work)
@@ -58,9 +58,9 @@ mount-cuts g card work p m K₀ =
 within-mount : (s : Session) (card work : List ℕ) (p : Pending) (m : List Item) → InvOf s (mk card work s p m) → (n : ℕ) (k : List ℕ)
     → Left (pending_in mount_c n (mk card work s p m)) (length card) k → Reads k m
 unfolding pending_in before end_open
-within-mount Closed card work p m h n k c = mount-cuts h.0 card work p m h.1 n k c
-within-mount (Open s) card work p m h n k c =
-    over (inv-reads (mk card work (Open s) p m) h card (inv_left (mk card work (Open s) p m) h)) c
+within-mount None card work p m h n k c = mount-cuts h.0 card work p m h.1 n k c
+within-mount (Some s) card work p m h n k c =
+    over (inv-reads (mk card work (Some s) p m) h card (inv_left (mk card work (Some s) p m) h)) c
   where
     over : Reads card m → Left (play (take n (steps_of mount_c (after_cut card work))) (after_cut card work).pending) (length card) k → Reads k m
     over r c =
@@ -76,22 +76,22 @@ mid-old c s card work p m h k x = inl (inv-reads (mk card work s p m) h k x)
 
 within-sync : (s : Session) (card work : List ℕ) (p : Pending) (m : List Item) → InvOf s (mk card work s p m) → Every (Mid sync_c s card work m) (steps_of sync_c (mk card work s p m)) p
 unfolding steps_of sync refused syncs_by by_number is_sync
-within-sync Closed card work p m h = every-nil (Mid sync_c Closed card work m) p (mid-old sync_c Closed card work p m h)
-within-sync (Open s) card work p m h =
-    steps-plan (λ (r : Ended). r.answer.number) (λ (x : List Step). Every (Mid sync_c (Open s) card work m) x p) _ _ (sync_steps s card work []) (λ k. refl)
-    (both-num s card work (guard-num 8 _ ahead!)) (every-nil (Mid sync_c (Open s) card work m) p (mid-old sync_c (Open s) card work p m h))
+within-sync None card work p m h = every-nil (Mid sync_c None card work m) p (mid-old sync_c None card work p m h)
+within-sync (Some s) card work p m h =
+    steps-plan (λ (r : Ended). r.answer.number) (λ (x : List Step). Every (Mid sync_c (Some s) card work m) x p) _ _ (sync_steps s card work []) (λ k. refl)
+    (both-num s card work (guard-num 8 _ ahead!)) (every-nil (Mid sync_c (Some s) card work m) p (mid-old sync_c (Some s) card work p m h))
     (λ j a e. let (F, live) = sync-live s card work e in finish F live)
   where
-    finish : Fit s work → s.worn ≡ false → Every (Mid sync_c (Open s) card work m) (by_number (sync_done s card work).answer.number (sync_steps s card work []) []) p
+    finish : Fit s work → s.worn ≡ false → Every (Mid sync_c (Some s) card work m) (by_number (sync_done s card work).answer.number (sync_steps s card work []) []) p
     finish F live n k x =
-        let V₀ = to-live s (mk card work (Open s) p m) live h in
+        let V₀ = to-live s (mk card work (Some s) p m) live h in
         unfold sync_done done by_number is_sync in
         sync-every s card work p m V₀ F live [] (every-nil (Either s work m) _ (new-reads s card work p m V₀ F live)) n k (rw V₀.sized at x)
 
-unmount-cuts : (b : Bool) (s : Opened) (card work : List ℕ) (p : Pending) (m : List Item) → s.worn ≡ b → OpenInv b s (mk card work (Open s) p m) → Fit s work
-    → Mid unmount_c (Open s) card work m p → Every (Mid unmount_c (Open s) card work m) (unmount_steps_by b s card work) p
+unmount-cuts : (b : Bool) (s : Opened) (card work : List ℕ) (p : Pending) (m : List Item) → s.worn ≡ b → OpenInv b s (mk card work (Some s) p m) → Fit s work
+    → Mid unmount_c (Some s) card work m p → Every (Mid unmount_c (Some s) card work m) (unmount_steps_by b s card work) p
 unfolding unmount_steps_by is_sync
-unmount-cuts true s card work p m e W F old = every-nil (Mid unmount_c (Open s) card work m) p old
+unmount-cuts true s card work p m e W F old = every-nil (Mid unmount_c (Some s) card work m) p old
 unmount-cuts false s card work p m e V₀ F old = λ n k x. go (at_top s) refl n k (rw V₀.sized at x)
   where
     go : (b : Bool) → at_top s ≡ b → Every (Either s work m) (sync_steps s card work (down_steps b s (set_word s.c.0 s.t.0 work))) p
@@ -104,14 +104,14 @@ unmount-cuts false s card work p m e V₀ F old = λ n k x. go (at_top s) refl n
 within-unmount : (s : Session) (card work : List ℕ) (p : Pending) (m : List Item) → InvOf s (mk card work s p m)
     → Every (Mid unmount_c s card work m) (steps_of unmount_c (mk card work s p m)) p
 unfolding steps_of unmount refused unmounts_by by_number
-within-unmount Closed card work p m h = every-nil (Mid unmount_c Closed card work m) p (mid-old unmount_c Closed card work p m h)
-within-unmount (Open s) card work p m h =
-    steps-plan (λ (r : Ended). r.answer.number) (λ (x : List Step). Every (Mid unmount_c (Open s) card work m) x p) _ _ (unmount_steps s card work) (λ k. refl)
-    (both-num s card work ahead!) (every-nil (Mid unmount_c (Open s) card work m) p (mid-old unmount_c (Open s) card work p m h))
+within-unmount None card work p m h = every-nil (Mid unmount_c None card work m) p (mid-old unmount_c None card work p m h)
+within-unmount (Some s) card work p m h =
+    steps-plan (λ (r : Ended). r.answer.number) (λ (x : List Step). Every (Mid unmount_c (Some s) card work m) x p) _ _ (unmount_steps s card work) (λ k. refl)
+    (both-num s card work ahead!) (every-nil (Mid unmount_c (Some s) card work m) p (mid-old unmount_c (Some s) card work p m h))
     (λ j a e. finish (fit-inv s work (both-inv s card work _ e).0))
   where
-    finish : Fit s work → Every (Mid unmount_c (Open s) card work m) (by_number (unmount_done s card work).answer.number (unmount_steps s card work) []) p
-    finish F = unfold unmount_done unmount_steps done by_number in unmount-cuts s.worn s card work p m refl h F (mid-old unmount_c (Open s) card work p m h)
+    finish : Fit s work → Every (Mid unmount_c (Some s) card work m) (by_number (unmount_done s card work).answer.number (unmount_steps s card work) []) p
+    finish F = unfold unmount_done unmount_steps done by_number in unmount-cuts s.worn s card work p m refl h F (mid-old unmount_c (Some s) card work p m h)
 
 -- ---- every call
 

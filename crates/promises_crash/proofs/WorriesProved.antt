@@ -1,4 +1,5 @@
 -- The tester's worries, proved. Assumes nothing.
+use Rattle.std.specs.Prelude.{Some, None}
 use mathlib.Core.Path.{◌≡◌, refl, sym, ap, subst}
 use mathlib.Core.Bool.{Bool, true, false}
 use mathlib.Core.List.{List}
@@ -12,8 +13,7 @@ use Rattle.counts.specs.Geometry.{geo_of}
 use Rattle.counts.specs.Stamps.{max_tx}
 use Rattle.card.specs.Plan.{refused}
 use Rattle.session.specs.declared.Opened.{Opened}
-use Rattle.session.specs.declared.Session.{Session}
-use Rattle.session.specs.declared.Session.TheVariants.{Closed, Open}
+use Rattle.session.specs.Session.{Session}
 use Rattle.session.specs.FitMeans.{Fits}
 use Rattle.session.proofs.FitMeansProved.{fits-mean}
 use Rattle.store.specs.Mount.{Ended, mount}
@@ -37,9 +37,9 @@ use Rattle.promises_crash.specs.Worries.{LandsAndWears, SyncAtTop, ends, OnlyLoo
 
 -- ---- a sync at the top
 
-module _ (s : Opened) (card work : List ℕ) (p : Pending) (m : List Item) (r : Since (mk card work (Open s) p m)) where
+module _ (s : Opened) (card work : List ℕ) (p : Pending) (m : List Item) (r : Since (mk card work (Some s) p m)) where
   abbrev W : World
-  W = mk card work (Open s) p m
+  W = mk card work (Some s) p m
 
   fit : Fits s work
   fit = (fits-mean s work).0 (fits-since r)
@@ -53,12 +53,12 @@ module _ (s : Opened) (card work : List ℕ) (p : Pending) (m : List Item) (r : 
         wears = (unfold after stepped by_number in rw done ((sync-changes s card work done).wears top));
       }
     where
-      done : (sync (Open s) card work).answer.number ≡ 0
+      done : (sync (Some s) card work).answer.number ≡ 0
       done =
-          (numbers.of_sync (Open s) card work 0).1
+          (numbers.of_sync (Some s) card work 0).1
           (inr (λ q. never (cc), inr (λ q. q (to-live s W live (inv-since r)).sized, inr (λ q. q fit, inr (λ q. clash q live, refl)))))
 
-      moment : (after sync_c W).last ≡ shown_in (Open s) work
+      moment : (after sync_c W).last ≡ shown_in (Some s) work
       moment = unfold after stepped by_number in rw done
 
   -- ---- a worn session
@@ -72,7 +72,7 @@ module _ (s : Opened) (card work : List ℕ) (p : Pending) (m : List Item) (r : 
         syncs = syncs;
         stays = stays;
         looks = looks-as s work fit;
-        lands = λ i l. (numbers.of_land (Open s) card work i 0).1 (inr (λ q. never (cc), inr (λ q. q sized, inr (λ q. q fit, inr (λ q. omega arith, refl)))));
+        lands = λ i l. (numbers.of_land (Some s) card work i 0).1 (inr (λ q. never (cc), inr (λ q. q sized, inr (λ q. q fit, inr (λ q. omega arith, refl)))));
         unmounts = closes;
         leaves = (unfold after stepped by_number in rw (closes, ((unmount-changes s card work closes).worn w).0, ← worn.same) fit.count);
       }
@@ -83,19 +83,19 @@ module _ (s : Opened) (card work : List ℕ) (p : Pending) (m : List Item) (r : 
       sized : length card ≡ 512 * s.geo.s
       sized = worn.rest.calm.is.sized
 
-      puts : (n d : List ℕ) (goal : ℕ) → (put_at (Open s) work n d goal).answer.number ≡ 9
-      puts n d goal = (numbers.of_put_at (Open s) work n d goal 9).1 (inr (λ q. never (cc), inr (λ q. q fit, inl (w, refl))))
+      puts : (n d : List ℕ) (goal : ℕ) → (put_at (Some s) work n d goal).answer.number ≡ 9
+      puts n d goal = (numbers.of_put_at (Some s) work n d goal 9).1 (inr (λ q. never (cc), inr (λ q. q fit, inl (w, refl))))
 
-      removes : (n : List ℕ) → (remove (Open s) work n).answer.number ≡ 9
-      removes n = (numbers.of_remove (Open s) work n 9).1 (inr (λ q. never (cc), inr (λ q. q fit, inl (w, refl))))
+      removes : (n : List ℕ) → (remove (Some s) work n).answer.number ≡ 9
+      removes n = (numbers.of_remove (Some s) work n 9).1 (inr (λ q. never (cc), inr (λ q. q fit, inl (w, refl))))
 
-      syncs : (sync (Open s) card work).answer.number ≡ 9
-      syncs = (numbers.of_sync (Open s) card work 9).1 (inr (λ q. never (cc), inr (λ q. q sized, inr (λ q. q fit, inl (w, refl)))))
+      syncs : (sync (Some s) card work).answer.number ≡ 9
+      syncs = (numbers.of_sync (Some s) card work 9).1 (inr (λ q. never (cc), inr (λ q. q sized, inr (λ q. q fit, inl (w, refl)))))
 
-      closes : (unmount (Open s) card work).answer.number ≡ 0
-      closes = (numbers.of_unmount (Open s) card work 0).1 (inr (λ q. never (cc), inr (λ q. q sized, inr (λ q. q fit, refl))))
+      closes : (unmount (Some s) card work).answer.number ≡ 0
+      closes = (numbers.of_unmount (Some s) card work 0).1 (inr (λ q. never (cc), inr (λ q. q sized, inr (λ q. q fit, refl))))
 
-      stays : (c : Call) → ends c ≡ false → (after c W).session ≡ Open s
+      stays : (c : Call) → ends c ≡ false → (after c W).session ≡ Some s
       stays (make_c g) e = falsum (sym e)
       stays mount_c e = falsum (sym e)
       stays sync_c e = ap (λ (v : World). v.session) ((refused-same W).of_sync (λ z. omega (arith, syncs)))
@@ -124,8 +124,8 @@ reads-below : {card : List ℕ} {m : List Item} → Reads card m → NoneAbove (
 reads-below r = record { words = r.is_sound.words; stamps = (λ p l. (r.is_sound.stamps.0 p l).1, λ i l. (r.is_sound.stamps.1 i l).1) }
 
 session-below : (o : Session) (work : List ℕ) → FitOf o work → NoneAboveIn o work
-session-below Closed work f = tt
-session-below (Open s) work f =
+session-below None work f = tt
+session-below (Some s) work f =
     let F = (fits-mean s work).0 f in
     (F.t_most, record { words = F.words; stamps = (λ p l. (F.present.stamps.0 p l).1, λ i l. (F.present.stamps.1 i l).1) })
 
@@ -141,8 +141,8 @@ no-count-above w r =
 -- ---- C = N
 
 -- a mount refused with k has changed nothing
-mount-refused : (k : ℕ) (card work : List ℕ) (r : Ended) → r.answer.number ≡ k → (r.session ≡ Closed) × (r.card ≡ card) × (r.work ≡ work) × (r.answer.count ≡ 0)
-    → r ≡ record { answer = refused k; session = Closed; card = card; work = work }
+mount-refused : (k : ℕ) (card work : List ℕ) (r : Ended) → r.answer.number ≡ k → (r.session ≡ None) × (r.card ≡ card) × (r.work ≡ work) × (r.answer.count ≡ 0)
+    → r ≡ record { answer = refused k; session = None; card = card; work = work }
 unfolding refused
 mount-refused k card work r e (a, b, c, d) = λ i. record { answer = record { number = e i; count = d i }; session = a i; card = b i; work = c i }
 

@@ -1,13 +1,12 @@
 -- Demand 2 as one simulation, stated: a plain list of names with contents goes along with every history of calls and cuts, and every answer of get, list, free
 -- and reading is the list's. A reader needs document 01, PlainList, Whole (what the calls that look answer from a list) and History. Assumes nothing.
-use Rattle.std.specs.Prelude.{◌≡◌, true, List, [], ℕ, zero, suc, length}
+use Rattle.std.specs.Prelude.{◌≡◌, true, List, [], ℕ, zero, suc, length, Some, None}
 use Rattle.std.proofs.Math.Option.{Option, none, some}
 use Rattle.counts.specs.declared.Geo.{Geo}
 use Rattle.card.specs.declared.Line.{Line}
 use Rattle.card.specs.Means.{InLimits}
 use Rattle.card.specs.Make.{fresh_card, make}
-use Rattle.session.specs.declared.Session.{Session}
-use Rattle.session.specs.declared.Session.TheVariants.{Closed, Open}
+use Rattle.session.specs.Session.{Session}
 use Rattle.store.specs.Mount.{mount}
 use Rattle.store.specs.Edit.{put_at, remove}
 use Rattle.store.specs.Look.{get, list, free}
@@ -99,10 +98,10 @@ pub data Along : (w : World) → Reach w → Plain → Type 0 where
 
 -- get, list and free of the session, where one is open
 abbrev pub SessionTells : Session → List ℕ → Option (List Item) → Type 0
-SessionTells Closed work none = Unit
-SessionTells Closed work (some l) = ⊥
-SessionTells (Open s) work none = ⊥
-SessionTells (Open s) work (some l) = LooksAs s work l
+SessionTells None work none = Unit
+SessionTells None work (some l) = ⊥
+SessionTells (Some s) work none = ⊥
+SessionTells (Some s) work (some l) = LooksAs s work l
 
 pub record Tells (w : World) (p : Plain) : Type 0 where
   -- reading the card, at any time, also while a session is open

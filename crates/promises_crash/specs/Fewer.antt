@@ -1,5 +1,5 @@
 -- Document 02, "Fewer writes at sync", stated: what sync and unmount leave, and how many writes they report. A reader needs both documents and this file. Assumes nothing.
-use Rattle.std.specs.Prelude.{◌≡◌, Bool, true, false, not, cond, ◌&&◌, ◌||◌, List, [], ℕ, zero, suc, ◌+◌, ◌/◌, ◌≤◌, leb, ltb, eqb, length}
+use Rattle.std.specs.Prelude.{◌≡◌, Bool, true, false, not, cond, ◌&&◌, ◌||◌, List, [], ℕ, zero, suc, ◌+◌, ◌/◌, ◌≤◌, leb, ltb, eqb, length, Some, None}
 use Rattle.words_sums.specs.Sums.{bit, total}
 use Rattle.sectors.specs.declared.Sector.{Sector}
 use Rattle.sectors.specs.Sectors.{sec, apply_steps, differs}
@@ -10,8 +10,7 @@ use Rattle.directory.specs.Directory.{spot_of}
 use Rattle.card.specs.Plan.{Plan, guard, go_ahead, ended, refused, done}
 use Rattle.card.specs.Files.{run_at}
 use Rattle.session.specs.declared.Opened.{Opened}
-use Rattle.session.specs.declared.Session.{Session}
-use Rattle.session.specs.declared.Session.TheVariants.{Closed, Open}
+use Rattle.session.specs.Session.{Session}
 use Rattle.session.specs.Views.{present_table}
 use Rattle.store.specs.Steps.{all_steps, all_down, at_top, sync_work, unmount_work}
 use Rattle.store.specs.Mount.{Ended}
@@ -23,18 +22,18 @@ use Rattle.promises_crash.specs.History.{World, Call, make_c, mount_c, sync_c, u
 
 -- document 01's sync, which "copies every sector but the table to the card" whatever the card holds, and counts 0
 unfoldable pub full_sync : Session → List ℕ → List ℕ → Ended
-full_sync Closed card work = record { answer = refused 4; session = Closed; card = card; work = work }
-full_sync (Open s) card work =
+full_sync None card work = record { answer = refused 4; session = None; card = card; work = work }
+full_sync (Some s) card work =
     ended (both_plan s card work (guard 9 (not s.worn) go_ahead))
-    (λ k. record { answer = refused k; session = Open s; card = card; work = work })
-    (λ j a. record { answer = done 0; session = Open (grown (at_top s) s); card = apply_steps (all_steps s work []) card; work = sync_work s work })
+    (λ k. record { answer = refused k; session = Some s; card = card; work = work })
+    (λ j a. record { answer = done 0; session = Some (grown (at_top s) s); card = apply_steps (all_steps s work []) card; work = sync_work s work })
 
 -- and its unmount
 unfoldable pub full_unmount : Session → List ℕ → List ℕ → Ended
-full_unmount Closed card work = record { answer = refused 4; session = Closed; card = card; work = work }
-full_unmount (Open s) card work =
-    ended (both_plan s card work go_ahead) (λ k. record { answer = refused k; session = Open s; card = card; work = work })
-    (λ j a. record { answer = done 0; session = Closed; card = apply_steps (all_down s work) card; work = unmount_work s work })
+full_unmount None card work = record { answer = refused 4; session = None; card = card; work = work }
+full_unmount (Some s) card work =
+    ended (both_plan s card work go_ahead) (λ k. record { answer = refused k; session = Some s; card = card; work = work })
+    (λ j a. record { answer = done 0; session = None; card = apply_steps (all_down s work) card; work = unmount_work s work })
 
 -- two ends of a call alike but for the count
 pub record Alike (a b : Ended) : Type 0 where
@@ -59,10 +58,10 @@ differing g card work = total (differs_at g card work) g.s
 
 -- the sectors that differ, whoever changed the card, and the table sector; "A worn unmount reports 0; the write of sector 0 is not counted."
 pub record Counts : Type 0 where
-  pub of_sync : (s : Opened) (card work : List ℕ) → (sync (Open s) card work).answer.number ≡ 0 → (sync (Open s) card work).answer.count ≡ differing s.geo card work + 1
-  pub of_unmount : (s : Opened) (card work : List ℕ) → s.worn ≡ false → (unmount (Open s) card work).answer.number ≡ 0
-      → (unmount (Open s) card work).answer.count ≡ differing s.geo card work + 1
-  pub of_worn : (s : Opened) (card work : List ℕ) → s.worn ≡ true → (unmount (Open s) card work).answer.count ≡ 0
+  pub of_sync : (s : Opened) (card work : List ℕ) → (sync (Some s) card work).answer.number ≡ 0 → (sync (Some s) card work).answer.count ≡ differing s.geo card work + 1
+  pub of_unmount : (s : Opened) (card work : List ℕ) → s.worn ≡ false → (unmount (Some s) card work).answer.number ≡ 0
+      → (unmount (Some s) card work).answer.count ≡ differing s.geo card work + 1
+  pub of_worn : (s : Opened) (card work : List ℕ) → s.worn ≡ true → (unmount (Some s) card work).answer.count ≡ 0
 
 -- ---- "Prove that it is at most .."
 
@@ -88,8 +87,8 @@ changes (cut_in r c n card work l) = 0
 
 -- the pairs of apages of the card that a session is open on
 unfoldable pub pairs_of : Session → ℕ
-pairs_of Closed = 0
-pairs_of (Open s) = g_p s.geo
+pairs_of None = 0
+pairs_of (Some s) = g_p s.geo
 
 -- "plus P + 2. A sync with no change writes exactly 1." in every history: one card, one working image, and nothing but our calls on them
 pub record Bounds : Type 0 where
@@ -125,12 +124,12 @@ unfoldable pub marked : Opened → List ℕ → ℕ → Plan → Marks → Marks
 marked s work k p m = ended p (λ n. m) (λ j a. record { sectors = λ i. hit_by s j a k i || m.sectors i; pages = λ q. bits_in s work j a k q || m.pages q })
 
 unfoldable pub put_marks : Session → List ℕ → List ℕ → List ℕ → ℕ → Marks → Marks
-put_marks Closed work n d goal m = m
-put_marks (Open s) work n d goal m = marked s work (sectors_for (length d)) (put_plan s work n d goal) m
+put_marks None work n d goal m = m
+put_marks (Some s) work n d goal m = marked s work (sectors_for (length d)) (put_plan s work n d goal) m
 
 unfoldable pub remove_marks : Session → List ℕ → List ℕ → Marks → Marks
-remove_marks Closed work n m = m
-remove_marks (Open s) work n m = marked s work 0 (remove_plan s work n) m
+remove_marks None work n m = m
+remove_marks (Some s) work n m = marked s work 0 (remove_plan s work n) m
 
 -- "since the last sync or mount": what is marked after a call, from what was marked before
 unfoldable pub marks_by : Call → World → Marks → Marks
@@ -161,8 +160,8 @@ some_of f (suc n) = some_of f n || f n
 
 -- the marked sectors and pages, the index where there is such a page, and the table sector
 unfoldable pub closer_of : Marks → Session → ℕ
-closer_of m Closed = 0
-closer_of m (Open s) = counted m.sectors s.geo.s + counted m.pages (g_p s.geo) + bit (some_of m.pages (g_p s.geo)) + 1
+closer_of m None = 0
+closer_of m (Some s) = counted m.sectors s.geo.s + counted m.pages (g_p s.geo) + bit (some_of m.pages (g_p s.geo)) + 1
 
 pub record Closer : Type 0 where
   pub of_sync : {w : World} (r : Reach w) → (sync w.session w.card w.work).answer.count ≤ closer_of (marks r) w.session

@@ -1,6 +1,6 @@
 -- Demand 3, stated: worlds, calls, cuts, histories, and what every cut leaves. A reader needs document 01, this file, and store/Steps for the steps that mount,
 -- sync and unmount take, with their barriers (Barriers says where these stand). Assumes nothing.
-use Rattle.std.specs.Prelude.{◌≡◌, Bool, true, false, cond, ◌⊎◌, ℕ, zero, suc, ◌*◌, ◌≤◌, ◌<◌, length, take, eqb}
+use Rattle.std.specs.Prelude.{◌≡◌, Bool, true, false, cond, ◌⊎◌, ℕ, zero, suc, ◌*◌, ◌≤◌, ◌<◌, length, take, eqb, Some, None}
 use mathlib.Core.List.{List, [], ◌∷◌, Memᴰ}
 use Rattle.sectors.specs.Sectors.{sec, Step, write, settle}
 use Rattle.counts.specs.declared.Geo.{Geo}
@@ -12,8 +12,7 @@ use Rattle.card.specs.Files.{cover}
 use Rattle.card.specs.Means.{InLimits, Sound}
 use Rattle.card.specs.Make.{fresh_card, make}
 use Rattle.card.specs.Reading.{files_shown, page_shown}
-use Rattle.session.specs.declared.Session.{Session}
-use Rattle.session.specs.declared.Session.TheVariants.{Closed, Open}
+use Rattle.session.specs.Session.{Session}
 use Rattle.store.specs.Steps.{mount_steps, sync_steps, unmount_steps}
 use Rattle.store.specs.Mount.{Ended, mount}
 use Rattle.store.specs.Edit.{put_at, remove}
@@ -75,7 +74,7 @@ pub data Call : Type 0 where
 
 -- "A cut ends the session and loses the working image"; a cut is a moment, and so is a making
 unfoldable pub after_cut : List ℕ → List ℕ → World
-after_cut card work = record { card = card; work = work; session = Closed; pending = settled card; last = shown_by card }
+after_cut card work = record { card = card; work = work; session = None; pending = settled card; last = shown_by card }
 
 -- by the number: 0, or a refusal
 unfoldable pub by_number : {A : Type 0} → ℕ → A → A → A
@@ -84,8 +83,8 @@ by_number (suc k) a b = b
 
 -- "a mount with one still open, refused or not, counts as a cut at which the card stays as it is"
 unfoldable pub end_open : Session → World → World
-end_open Closed w = w
-end_open (Open s) w = after_cut w.card w.work
+end_open None w = w
+end_open (Some s) w = after_cut w.card w.work
 
 unfoldable pub before : Call → World → World
 before (make_c g) w = w
@@ -101,12 +100,12 @@ before free_c w = w
 
 -- the steps of an open session's sync and unmount
 unfoldable pub syncs_by : Session → List ℕ → List ℕ → List Step
-syncs_by Closed card work = []
-syncs_by (Open s) card work = sync_steps s card work []
+syncs_by None card work = []
+syncs_by (Some s) card work = sync_steps s card work []
 
 unfoldable pub unmounts_by : Session → List ℕ → List ℕ → List Step
-unmounts_by Closed card work = []
-unmounts_by (Open s) card work = unmount_steps s card work
+unmounts_by None card work = []
+unmounts_by (Some s) card work = unmount_steps s card work
 
 -- the steps that a call takes on the card: none where it is refused, and only mount, sync and unmount take any
 unfoldable pub steps_of : Call → World → List Step

@@ -1,11 +1,10 @@
 -- What a module runs, stated: the host functions over two images and the 24 bytes of a session, and demand 3 of them. A reader needs History, host_crossing/Crossing
 -- for the bytes and host_crossing/FirstSteps for the functions that stop inside a call. Assumes nothing.
-use Rattle.std.specs.Prelude.{◌≡◌, true, List, ◌⊎◌, ℕ, length, take}
+use Rattle.std.specs.Prelude.{◌≡◌, true, List, ◌⊎◌, ℕ, length, take, None}
 use Rattle.sectors.specs.Sectors.{apply_steps}
 use Rattle.counts.specs.declared.Geo.{Geo}
 use Rattle.card.specs.Means.{InLimits}
 use Rattle.card.specs.Make.{fresh_card, make}
-use Rattle.session.specs.declared.Session.TheVariants.{Closed}
 use Rattle.store.specs.Mount.{mount}
 use Rattle.store.specs.Edit.{put_at, remove}
 use Rattle.store.specs.Sync.{land, sync, unmount}
@@ -23,7 +22,7 @@ pub record Held : Type 0 where
 -- what the host function of a call leaves of them, by its contract. store_make is not lent the session: "A make that gives 0 ends the session", so whoever
 -- called it takes the closed one from there on. The functions that read a card change none of the three
 unfoldable pub left : Call → Held → Held
-left (make_c g) h = let r = make g h.card in record { card = r.image; work = h.work; bytes = by_number r.answer.number (encoded Closed) h.bytes }
+left (make_c g) h = let r = make g h.card in record { card = r.image; work = h.work; bytes = by_number r.answer.number (encoded None) h.bytes }
 left mount_c h = let r = mount h.card h.work in record { card = r.card; work = r.work; bytes = encoded r.session }
 left sync_c h = let r = sync (decoded h.bytes) h.card h.work in record { card = r.card; work = r.work; bytes = kept r h.bytes }
 left unmount_c h = let r = unmount (decoded h.bytes) h.card h.work in record { card = r.card; work = r.work; bytes = kept r h.bytes }
@@ -37,11 +36,11 @@ left free_c h = h
 -- a module's history, and beside it the world in which the calls do the same: what each sector may hold, and the files of the latest moment, are that world's.
 -- After a cut the module has what is left of the card, any working image, and any bytes of the closed session
 pub data Runs : Held → World → Type 0 where
-  made : (g : Geo) (work b : List ℕ) → InLimits g → decoded b ≡ Closed → Runs (record { card = fresh_card g; work = work; bytes = b }) (after_cut (fresh_card g) work)
+  made : (g : Geo) (work b : List ℕ) → InLimits g → decoded b ≡ None → Runs (record { card = fresh_card g; work = work; bytes = b }) (after_cut (fresh_card g) work)
   ran : {h : Held} {w : World} → Runs h w → (c : Call) → Runs (left c h) (after c w)
-  lost : {h : Held} {w : World} → Runs h w → (card work b : List ℕ) → Left w.pending (length h.card) card → decoded b ≡ Closed
+  lost : {h : Held} {w : World} → Runs h w → (card work b : List ℕ) → Left w.pending (length h.card) card → decoded b ≡ None
       → Runs (record { card = card; work = work; bytes = b }) (after_cut card work)
-  lost_in : {h : Held} {w : World} → Runs h w → (c : Call) (n : ℕ) (card work b : List ℕ) → Left (pending_in c n w) (length h.card) card → decoded b ≡ Closed
+  lost_in : {h : Held} {w : World} → Runs h w → (c : Call) (n : ℕ) (card work b : List ℕ) → Left (pending_in c n w) (length h.card) card → decoded b ≡ None
       → Runs (record { card = card; work = work; bytes = b }) (after_cut card work)
 
 -- a history of host functions is a history of calls: the same images, and the session that the bytes hold. So each function answers as its call does there

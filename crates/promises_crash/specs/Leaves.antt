@@ -1,6 +1,6 @@
 -- What land, mount, sync and unmount leave when they give 0: both images sector by sector, and the session; and that five calls count 0. Stated.
 -- Assumes nothing.
-use Rattle.std.specs.Prelude.{◌≡◌, true, false, List, ◌≢◌, ℕ, ◌+◌, ◌*◌, ◌%◌, ◌≤◌, ◌<◌, length, get_or, set}
+use Rattle.std.specs.Prelude.{◌≡◌, true, false, List, ◌≢◌, ℕ, ◌+◌, ◌*◌, ◌%◌, ◌≤◌, ◌<◌, length, get_or, set, Some, None}
 use Rattle.words.specs.Lists.{splice}
 use Rattle.words.specs.Bytes.{word_bytes}
 use Rattle.sectors.specs.Sectors.{sec}
@@ -9,8 +9,7 @@ use Rattle.counts.specs.Geometry.{geo_of, count_of, table_of}
 use Rattle.counts.specs.Stamps.{max_tx}
 use Rattle.card.specs.Make.{make}
 use Rattle.session.specs.declared.Opened.{Opened}
-use Rattle.session.specs.declared.Session.{Session}
-use Rattle.session.specs.declared.Session.TheVariants.{Closed, Open}
+use Rattle.session.specs.Session.{Session}
 use Rattle.store.specs.Steps.{table_sector}
 use Rattle.store.specs.Mount.{Ended, mount}
 use Rattle.store.specs.Edit.{put_at, remove}
@@ -45,7 +44,7 @@ pub record MountLeaves (card : List ℕ) (r : Ended) : Type 0 where
   pub copied : r.work ≡ r.card
   -- "The session has c = the old C and t = table word c, plus 1."
   pub session : r.session
-      ≡ Open (record {
+      ≡ Some (record {
         geo = geo_of (sec card);
         c = record { 0 = count_of (sec card) };
         t = record { 0 = get_or (table_of (geo_of (sec card)) (sec card)) (count_of (sec card)) 0 + 1 };
@@ -74,15 +73,15 @@ pub record BothSynced (s : Opened) (card work head card' work' : List ℕ) : Typ
 pub record SyncLeaves (s : Opened) (card work : List ℕ) (r : Ended) : Type 0 where
   pub images : BothSynced s card work (sec work 0) r.card r.work
   -- "Then t grows by 1."
-  pub grows : s.t.0 < max_tx → r.session ≡ Open (record { geo = s.geo; c = s.c; t = record { 0 = s.t.0 + 1 }; worn = false })
+  pub grows : s.t.0 < max_tx → r.session ≡ Some (record { geo = s.geo; c = s.c; t = record { 0 = s.t.0 + 1 }; worn = false })
   -- "At t = 2,147,483,647 it lands too, t stays, and the session is worn"
-  pub wears : s.t.0 ≡ max_tx → r.session ≡ Open (record { geo = s.geo; c = s.c; t = s.t; worn = true })
+  pub wears : s.t.0 ≡ max_tx → r.session ≡ Some (record { geo = s.geo; c = s.c; t = s.t; worn = true })
 
 -- ---- unmount
 
 pub record UnmountLeaves (s : Opened) (card work : List ℕ) (r : Ended) : Type 0 where
   -- "The session is closed"
-  pub closed : r.session ≡ Closed
+  pub closed : r.session ≡ None
   -- "syncs unless worn, then writes C = c to sector 0 of both images"
   pub down : s.worn ≡ false → s.t.0 < max_tx → BothSynced s card work (with_count s.c.0 (sec work 0)) r.card r.work
   pub count_down : s.worn ≡ false → s.t.0 < max_tx → (count_of (sec r.card) ≡ s.c.0) × (count_of (sec r.work) ≡ s.c.0)
@@ -95,16 +94,16 @@ pub record UnmountLeaves (s : Opened) (card work : List ℕ) (r : Ended) : Type 
 -- ---- the statements: for each call that gives 0
 
 abbrev pub LandChanges : Type 0
-LandChanges = (s : Opened) (card work : List ℕ) (i : ℕ) → (land (Open s) card work i).answer.number ≡ 0 → LandLeaves s i card work (land (Open s) card work i).image
+LandChanges = (s : Opened) (card work : List ℕ) (i : ℕ) → (land (Some s) card work i).answer.number ≡ 0 → LandLeaves s i card work (land (Some s) card work i).image
 
 abbrev pub MountChanges : Type 0
 MountChanges = (card work : List ℕ) → (mount card work).answer.number ≡ 0 → MountLeaves card (mount card work)
 
 abbrev pub SyncChanges : Type 0
-SyncChanges = (s : Opened) (card work : List ℕ) → (sync (Open s) card work).answer.number ≡ 0 → SyncLeaves s card work (sync (Open s) card work)
+SyncChanges = (s : Opened) (card work : List ℕ) → (sync (Some s) card work).answer.number ≡ 0 → SyncLeaves s card work (sync (Some s) card work)
 
 abbrev pub UnmountChanges : Type 0
-UnmountChanges = (s : Opened) (card work : List ℕ) → (unmount (Open s) card work).answer.number ≡ 0 → UnmountLeaves s card work (unmount (Open s) card work)
+UnmountChanges = (s : Opened) (card work : List ℕ) → (unmount (Some s) card work).answer.number ≡ 0 → UnmountLeaves s card work (unmount (Some s) card work)
 
 -- "the other session calls, make and mount count 0", sync and unmount aside, whose count `Counts` (Fewer) states; with a refusal they count 0 too
 pub record CountsNothing : Type 0 where

@@ -4,7 +4,7 @@ use Rattle.counts.specs.declared.Geo.{Geo}
 use Rattle.card.specs.declared.Line.{Line}
 use Rattle.card.specs.Make.{make}
 use Rattle.card.specs.Reading.{read, read_list, read_get}
-use Rattle.session.specs.declared.Session.{Session}
+use Rattle.session.specs.Session.{Session}
 use Rattle.store.specs.Mount.{mount}
 use Rattle.store.specs.Edit.{put_at, remove}
 use Rattle.store.specs.Look.{get, list, free}

@@ -5,7 +5,7 @@ use Rattle.counts.specs.declared.Geo.{Geo}
 use Rattle.counts.specs.Geometry.{geo_of}
 use Rattle.card.specs.Make.{make}
 use Rattle.card.specs.Reading.{files_in}
-use Rattle.session.specs.declared.Session.{Session}
+use Rattle.session.specs.Session.{Session}
 use Rattle.store.specs.Mount.{mount}
 use Rattle.store.specs.Edit.{put_at, remove}
 use Rattle.store.specs.Sync.{land, sync, unmount}

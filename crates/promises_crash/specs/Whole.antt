@@ -1,5 +1,5 @@
 -- The calls that only look, whole: what reading a card, and get, list and free of a session, answer if what is shown is a plain list. Stated. Assumes nothing.
-use Rattle.std.specs.Prelude.{◌≡◌, true, List, [], ◌∷◌, ◌⊎◌, ℕ, ◌+◌, ◌≤◌, ◌<◌, length, take, drop}
+use Rattle.std.specs.Prelude.{◌≡◌, true, List, [], ◌∷◌, ◌⊎◌, ℕ, ◌+◌, ◌≤◌, ◌<◌, length, take, drop, Some}
 use Rattle.sectors.specs.Sectors.{sec}
 use Rattle.counts.specs.Geometry.{g_n, g_f, geo_of, count_of}
 use Rattle.entries.specs.Entries.{sectors_for}
@@ -8,7 +8,6 @@ use Rattle.card.specs.Plan.{refused, done, Got, Listed}
 use Rattle.card.specs.Means.{GoodName}
 use Rattle.card.specs.Reading.{read, read_list, read_get}
 use Rattle.session.specs.declared.Opened.{Opened}
-use Rattle.session.specs.declared.Session.TheVariants.{Open}
 use Rattle.store.specs.Look.{get, list, free}
 use Rattle.promises_answers.specs.PlainList.{Item, lookup, shown_in}
 use Rattle.promises_answers.specs.PlainCalls.{Names, plain_get, Lines}
@@ -46,11 +45,11 @@ pub record ReadsAs (card : List ℕ) (m : List Item) : Type 0 where
 -- a session that shows m
 pub record LooksAs (s : Opened) (work : List ℕ) (m : List Item) : Type 0 where
   pub names : Names m
-  pub gets : (n out : List ℕ) → GetsAs m n out (get (Open s) work n out)
-  pub lists : (lines : List Line) → ListsAs m lines (list (Open s) work lines)
-  pub number : (free (Open s) work).number ≡ 0
+  pub gets : (n out : List ℕ) → GetsAs m n out (get (Some s) work n out)
+  pub lists : (lines : List Line) → ListsAs m lines (list (Some s) work lines)
+  pub number : (free (Some s) work).number ≡ 0
   -- "Free, waiting, sectors of present files and F add up to S"
-  pub frees : (free (Open s) work).free + (free (Open s) work).waiting + sectors_in m + g_f s.geo ≡ s.geo.s
+  pub frees : (free (Some s) work).free + (free (Some s) work).waiting + sectors_in m + g_f s.geo ≡ s.geo.s
 
 -- ---- demand 3, joined with the reading calls: after any history and any cut they answer from the files of the latest moment, or, inside a sync or
 -- unmount, from those that the session showed at its start

@@ -1,5 +1,5 @@
 -- What a line of the bench sheet does, and what it says of it. Assumes nothing.
-use Rattle.std.specs.Prelude.{Bool, true, false, cond, ◌&&◌, ◌||◌, List, [], ◌∷◌, ◌++◌, ℕ, ◌*◌, take, drop, replicate, eqb}
+use Rattle.std.specs.Prelude.{Bool, true, false, cond, ◌&&◌, ◌||◌, List, [], ◌∷◌, ◌++◌, ℕ, ◌*◌, take, drop, replicate, eqb, Some, None}
 use Rattle.words.specs.Lists.{eq_list, splice}
 use Rattle.words.specs.Bytes.{word_bytes}
 use Rattle.sectors.specs.Sectors.{sec, apply_steps}
@@ -7,13 +7,12 @@ use Rattle.counts.specs.declared.Geo.{Geo}
 use Rattle.counts.specs.Geometry.{count_of}
 use Rattle.card.specs.declared.Line.{Line}
 use Rattle.card.specs.declared.Answer.{Answer}
-use Rattle.card.specs.declared.Report.{Report}
+use Rattle.card.specs.Plan.{Report}
 use Rattle.card.specs.Make.{make}
 use Rattle.card.specs.Reading.{files_shown, read}
-use Rattle.session.specs.declared.Session.{Session}
-use Rattle.session.specs.declared.Session.TheVariants.{Closed, Open}
+use Rattle.session.specs.Session.{Session}
 use Rattle.session.specs.Views.{session_files}
-use Rattle.store.specs.declared.Room.{Room}
+use Rattle.store.specs.Given.{Room}
 use Rattle.store.specs.Steps.{set_count, set_word, sync_steps}
 use Rattle.store.specs.Mount.{mount}
 use Rattle.store.specs.Edit.{put, put_at, remove}
@@ -86,8 +85,8 @@ is_room f n r = eqb 0 r.number && eqb f r.free && eqb n r.waiting
 
 -- the card after the first n steps of a sync
 unfoldable pub steps_done : Session → ℕ → List ℕ → List ℕ → List ℕ
-steps_done Closed n card work = card
-steps_done (Open s) n card work = apply_steps (take n (sync_steps s card work [])) card
+steps_done None n card work = card
+steps_done (Some s) n card work = apply_steps (take n (sync_steps s card work [])) card
 
 -- the acts of one case in order: each gives what the line says, or the case fails
 unfoldable pub run : Bench → List Act → Bool
@@ -95,7 +94,7 @@ unfolding has_line is_answer is_report is_room steps_done
 run w [] = true
 run w (makes s k ∷ acts) =
     let r = make (geo_for s) (replicate (512 * s) 5) in
-    cond (is_answer k 0 r.answer && (eqb k 0 || eq_list r.image (replicate (512 * s) 5))) (run (record { session = Closed; card = r.image; work = r.image }) acts) false
+    cond (is_answer k 0 r.answer && (eqb k 0 || eq_list r.image (replicate (512 * s) 5))) (run (record { session = None; card = r.image; work = r.image }) acts) false
 run w (mounts k ∷ acts) =
     let r = mount w.card w.work in cond (is_answer k 0 r.answer) (run (record { session = r.session; card = r.card; work = r.work }) acts) false
 run w (puts n b k ∷ acts) =
@@ -120,9 +119,9 @@ run w (lands i k ∷ acts) =
 run w (unmounts k n ∷ acts) =
     let r = unmount w.session w.card w.work in
     cond (is_answer k n r.answer) (run (record { session = r.session; card = r.card; work = r.work }) acts) false
-run w (cuts ∷ acts) = run (record { session = Closed; card = w.card; work = w.card }) acts
+run w (cuts ∷ acts) = run (record { session = None; card = w.card; work = w.card }) acts
 run w (sync_cuts n ∷ acts) =
-    let k = steps_done w.session n w.card w.work in run (record { session = Closed; card = k; work = k }) acts
+    let k = steps_done w.session n w.card w.work in run (record { session = None; card = k; work = k }) acts
 run w (shows n b a k ∷ acts) = cond (has_line n b a k (session_files w.session w.work)) (run w acts) false
 run w (reads c f n ∷ acts) = cond (is_report 0 c 128 f n (read w.card)) (run w acts) false
 run w (reads_line n b a k ∷ acts) = cond (has_line n b a k (files_shown w.card)) (run w acts) false
@@ -138,4 +137,4 @@ run w (stamps c t ∷ acts) =
 unfoldable pub all : List (List Act) → Bool
 unfolding run
 all [] = true
-all (x ∷ xs) = run (record { session = Closed; card = []; work = [] }) x && all xs
+all (x ∷ xs) = run (record { session = None; card = []; work = [] }) x && all xs

@@ -3,21 +3,29 @@ use mathlib.Core.Path.{◌≡◌, refl, sym, ◌∙◌}
 use mathlib.Core.List.{List, [], ◌∷◌}
 use Prim.Native.Nat.{ℕ}
 use Rattle.card.specs.declared.Answer.{Answer}
-use Rattle.store.specs.declared.Outcome.{Outcome}
+use Rattle.card.proofs.AnswerLaws.{counted-one, uncounted-one, number-in-one, reported-one, lined-one}
+use Rattle.store.specs.Given.{Outcome}
 use Rattle.store.specs.Mount.{Ended, IsEnded}
+use Rattle.store.proofs.GivenLaws.{mounted-one, synced-one, unmounted-one, room-one}
 use Rattle.host_crossing.specs.Crossing.{IsMounted, IsKept, IsKeptNumber}
 use Rattle.promises_tight.specs.Tight.{Contracts}
-
-one : {A : Type 0} {x y d : A} → x ≡ d → y ≡ d → (x ≡ y) × (◌≡◌ {A = List (List ℕ)} [] [])
-one p q = (p ∙ sym q, refl)
 
 two : {A : Type 0} {x y d : A} {s t b : List ℕ} → (x ≡ d) × (s ≡ b) → (y ≡ d) × (t ≡ b) → (x ≡ y) × ((s ∷ []) ≡ (t ∷ []))
 two p q = (p.0 ∙ sym q.0, λ i. (p.1 ∙ sym q.1) i ∷ [])
 
+-- by what a result gives, where no two give the same
+module _ {A B : Type 0} {f : A → B} (same : (x y : A) → f x ≡ f y → x ≡ y) {x y : A} where
+  one-by : {d : B} → f x ≡ d → f y ≡ d → (x ≡ y) × (◌≡◌ {A = List (List ℕ)} [] [])
+  one-by p q = (same x y (p ∙ sym q), refl)
+
+  two-by : {d : B} {s t b : List ℕ} → (f x ≡ d) × (s ≡ b) → (f y ≡ d) × (t ≡ b) → (x ≡ y) × ((s ∷ []) ≡ (t ∷ []))
+  two-by p q = (same x y (p.0 ∙ sym q.0), λ i. (p.1 ∙ sym q.1) i ∷ [])
+
 -- answer, session and both images
-ended : {x y : Outcome} {s t s' t' : List ℕ} {e : Ended} → IsEnded x s s' e → IsEnded y t t' e → (x ≡ y) × ((s ∷ s' ∷ []) ≡ (t ∷ t' ∷ []))
-ended p q = (
-  λ i. record { answer = (p.answer ∙ sym q.answer) i; session = (p.session ∙ sym q.session) i },
+ended : {A : Type 0} {f : A → Outcome} → ((x y : A) → f x ≡ f y → x ≡ y) → {x y : A} {s t s' t' : List ℕ} {e : Ended} → IsEnded (f x) s s' e → IsEnded (f y) t t' e
+    → (x ≡ y) × ((s ∷ s' ∷ []) ≡ (t ∷ t' ∷ []))
+ended same {x} {y} p q = (
+  same x y (λ i. record { answer = (p.answer ∙ sym q.answer) i; session = (p.session ∙ sym q.session) i }),
   λ i. (p.card ∙ sym q.card) i ∷ (p.work ∙ sym q.work) i ∷ [],
 )
 
@@ -43,21 +51,21 @@ numbered p q = (
 pub contracts : Contracts
 contracts =
     record {
-      of_make = λ κs a. (tt, λ x y s t p q. two p q);
-      of_mount = λ κs a. (tt, λ x y s t p q. ended p q);
-      of_mount_number = λ κs a. (tt, λ x y s t p q. one p q);
-      of_put = λ κs a. (tt, λ x y s t p q. two p q);
-      of_put_at = λ κs a. (tt, λ x y s t p q. two p q);
-      of_remove = λ κs a. (tt, λ x y s t p q. two p q);
-      of_get = λ κs a. (tt, λ x y s t p q. two p q);
-      of_free = λ κs a. (tt, λ x y s t p q. one p q);
-      of_line = λ κs a. (tt, λ x y s t p q. one p q);
-      of_land = λ κs a. (tt, λ x y s t p q. two p q);
-      of_sync = λ κs a. (tt, λ x y s t p q. ended p q);
-      of_unmount = λ κs a. (tt, λ x y s t p q. ended p q);
-      of_read = λ κs a. (tt, λ x y s t p q. one p q);
-      of_read_line = λ κs a. (tt, λ x y s t p q. one p q);
-      of_read_get = λ κs a. (tt, λ x y s t p q. two p q);
+      of_make = λ κs a. (tt, λ x y s t p q. two-by uncounted-one p q);
+      of_mount = λ κs a. (tt, λ x y s t p q. ended mounted-one p q);
+      of_mount_tests = λ κs a. (tt, λ x y s t p q. one-by number-in-one p q);
+      of_put = λ κs a. (tt, λ x y s t p q. two-by uncounted-one p q);
+      of_put_at = λ κs a. (tt, λ x y s t p q. two-by uncounted-one p q);
+      of_remove = λ κs a. (tt, λ x y s t p q. two-by uncounted-one p q);
+      of_get = λ κs a. (tt, λ x y s t p q. two-by counted-one p q);
+      of_free = λ κs a. (tt, λ x y s t p q. one-by room-one p q);
+      of_line = λ κs a. (tt, λ x y s t p q. one-by lined-one p q);
+      of_land = λ κs a. (tt, λ x y s t p q. two-by uncounted-one p q);
+      of_sync = λ κs a. (tt, λ x y s t p q. ended (synced-one a.0) p q);
+      of_unmount = λ κs a. (tt, λ x y s t p q. ended (unmounted-one a.0) p q);
+      of_read = λ κs a. (tt, λ x y s t p q. one-by reported-one p q);
+      of_read_line = λ κs a. (tt, λ x y s t p q. one-by lined-one p q);
+      of_read_get = λ κs a. (tt, λ x y s t p q. two-by counted-one p q);
       of_store_make = λ κs a. (tt, λ x y s t p q. two p q);
       of_store_read = λ κs a. (tt, λ x y s t p q. two p q);
       of_store_read_get = λ κs a. (tt, λ x y s t p q. two p q);

@@ -9,8 +9,8 @@ use Rattle.card_fresh.proofs.make.Kinds as make_is
 use Rattle.card_fresh.proofs.make.Reads as make
 use Rattle.store_card.proofs.mount.Kinds as mount_is
 use Rattle.store_card.proofs.mount.Reads as mount
-use Rattle.store_card.proofs.mount_number.Kinds as mount_number_is
-use Rattle.store_card.proofs.mount_number.Reads as mount_number
+use Rattle.store_card.proofs.mount_tests.Kinds as mount_tests_is
+use Rattle.store_card.proofs.mount_tests.Reads as mount_tests
 use Rattle.store_edit.proofs.put.Kinds as put_is
 use Rattle.store_edit.proofs.put.Reads as put
 use Rattle.store_edit.proofs.put_at.Kinds as put_at_is
@@ -80,7 +80,7 @@ module _ (n : ℕ) (ps : List (ParamKind n)) (r : ResultKind n) (Pre : In n ps) 
 pub record Contracts : Type 0 where
   pub of_make : Tight 1 make_is.ps make_is.r make.Pre make.Post (λ κs s. s.1.0.now ∷ [])
   pub of_mount : Tight 2 mount_is.ps mount_is.r mount.Pre mount.Post (λ κs s. s.0.now ∷ s.1.0.now ∷ [])
-  pub of_mount_number : Tight 2 mount_number_is.ps mount_number_is.r mount_number.Pre mount_number.Post (λ κs s. [])
+  pub of_mount_tests : Tight 2 mount_tests_is.ps mount_tests_is.r mount_tests.Pre mount_tests.Post (λ κs s. [])
   pub of_put : Tight 3 put_is.ps put_is.r put.Pre put.Post (λ κs s. s.1.0.now ∷ [])
   pub of_put_at : Tight 3 put_at_is.ps put_at_is.r put_at.Pre put_at.Post (λ κs s. s.1.0.now ∷ [])
   pub of_remove : Tight 2 remove_is.ps remove_is.r remove.Pre remove.Post (λ κs s. s.1.0.now ∷ [])

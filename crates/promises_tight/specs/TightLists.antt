@@ -13,6 +13,8 @@ use borrow.Fn.Kinds.{ParamKind, ResultKind, In, Out, Dens, res_t, ended_of}
 use denote.Triple.Entry.{Args, Res}
 use denote.Triple.Clauses.{Ended, AtExit, Clauses}
 use Rattle.card.specs.declared.Line.{Line}
+use Rattle.card.specs.Answers.{counted}
+use Rattle.card.proofs.AnswerLaws.{counted-one}
 use Rattle.card.specs.Reading.{read_list}
 use Rattle.store.specs.Inner.{FitOf}
 use Rattle.store.specs.Look.{list}
@@ -66,20 +68,20 @@ module _ (T : Ended) (clauses : (M : Type 1) (𝓤 : Ura M) → (𝓛 : Logic �
     pub one : (κs : Lfts T.signature.lifetimes) (a : Args T.signature κs) (x y : Res T.signature κs) (s t : AtExit T κs) → P κs a x s → P κs a y t
         → (x ≡ y) × (seen κs s ≡ seen κs t)
 
-pub list-tight : Tight list_is.ended (λ M 𝓤 𝓛. list_is.clauses 𝓛) (λ κs a r s. (r ≡ (list a.0 a.1.0.now a.1.1.0.now).answer) × (s.1.1.0.now ≡ (list a.0 a.1.0.now a.1.1.0.now).lines)) (λ κs s. s.1.1.0.now)
+pub list-tight : Tight list_is.ended (λ M 𝓤 𝓛. list_is.clauses 𝓛) (λ κs a r s. (counted r ≡ (list a.0 a.1.0.now a.1.1.0.now).answer) × (s.1.1.0.now ≡ (list a.0 a.1.0.now a.1.1.0.now).lines)) (λ κs s. s.1.1.0.now)
 list-tight =
     record {
       asks = λ M 𝓤 𝓛 mem run κs a g. refl;
       says = λ M 𝓤 𝓛 mem run κs a g r s. refl;
-      one = λ κs a x y s t p q. (p.0 ∙ sym q.0, p.1 ∙ sym q.1);
+      one = λ κs a x y s t p q. (counted-one x y (p.0 ∙ sym q.0), p.1 ∙ sym q.1);
     }
 
-pub read_list-tight : Tight read_list_is.ended (λ M 𝓤 𝓛. read_list_is.clauses 𝓛) (λ κs a r s. (r ≡ (read_list a.0.now a.1.0.now).answer) × (s.1.0.now ≡ (read_list a.0.now a.1.0.now).lines)) (λ κs s. s.1.0.now)
+pub read_list-tight : Tight read_list_is.ended (λ M 𝓤 𝓛. read_list_is.clauses 𝓛) (λ κs a r s. (counted r ≡ (read_list a.0.now a.1.0.now).answer) × (s.1.0.now ≡ (read_list a.0.now a.1.0.now).lines)) (λ κs s. s.1.0.now)
 read_list-tight =
     record {
       asks = λ M 𝓤 𝓛 mem run κs a g. refl;
       says = λ M 𝓤 𝓛 mem run κs a g r s. refl;
-      one = λ κs a x y s t p q. (p.0 ∙ sym q.0, p.1 ∙ sym q.1);
+      one = λ κs a x y s t p q. (counted-one x y (p.0 ∙ sym q.0), p.1 ∙ sym q.1);
     }
 
 pub store_list-tight : Tight store_list_is.ended (λ M 𝓤 𝓛. store_list_is.clauses 𝓛) (λ κs a r s. (r ≡ (list (decoded a.0.now) a.1.0.now a.1.1.0.now).answer) × (s.1.1.0.now ≡ (list (decoded a.0.now) a.1.0.now a.1.1.0.now).lines)) (λ κs s. s.1.1.0.now)

@@ -4,6 +4,7 @@
 -- figure of free made up). The wrong builds
 -- are in TrialsReuse (a sector that the cut view holds; a new name over an entry that it shows), TrialsWrap (counts compared after a wrap), TrialsEarly
 -- (table word c written early) and TrialsBuild (a dead stamp at C). Assumes nothing.
+use Rattle.std.specs.Prelude.{Some, None}
 use mathlib.Core.Path.{◌≡◌, refl, ◌∙◌}
 use mathlib.Core.Bool.{true, false}
 use mathlib.Core.List.{List, [], ◌∷◌}
@@ -26,8 +27,7 @@ use Rattle.card.proofs.MeansParts.{limits-mean}
 use Rattle.card.proofs.FreshLaws.{fresh-shape}
 use Rattle.card.proofs.FreshSectors.{fresh-length}
 use Rattle.session.specs.declared.Opened.{Opened}
-use Rattle.session.specs.declared.Session.{Session}
-use Rattle.session.specs.declared.Session.TheVariants.{Closed, Open}
+use Rattle.session.specs.Session.{Session}
 use Rattle.session.specs.Fits.{sizes_ok, fits}
 use Rattle.session.specs.FitMeans.{Fits}
 use Rattle.session.proofs.FitMeansProved.{fits-mean}
@@ -77,34 +77,34 @@ unfoldable blank : Opened
 blank = record { geo = record { s = 0; t = 0; d = 0 }; c = record { 0 = 0 }; t = record { 0 = 0 }; worn = false }
 
 -- it is not the closed one
-open-not : ¬ (Open blank ≡ Closed)
+open-not : ¬ (Some blank ≡ None)
 open-not e = never cc
 
 -- a put that always says k; so for k = 8, for k = 2 and for k = 0
 pub always-put : (k : ℕ) → ¬ ((s : Session) (work n d : List ℕ) → Exactly k (put_rows s work n d))
-always-put k h = fixed 4 (λ s. put_rows s [] [] []) Closed (Open blank) (refl, refl) (open-not, refl) k (λ s. h s [] [] [])
+always-put k h = fixed 4 (λ s. put_rows s [] [] []) None (Some blank) (refl, refl) (open-not, refl) k (λ s. h s [] [] [])
 
 -- the same of every other call of a session
 pub always-remove : (k : ℕ) → ¬ ((s : Session) (work n : List ℕ) → Exactly k (remove_rows s work n))
-always-remove k h = fixed 4 (λ s. remove_rows s [] []) Closed (Open blank) (refl, refl) (open-not, refl) k (λ s. h s [] [])
+always-remove k h = fixed 4 (λ s. remove_rows s [] []) None (Some blank) (refl, refl) (open-not, refl) k (λ s. h s [] [])
 
 pub always-get : (k : ℕ) → ¬ ((s : Session) (work n out : List ℕ) → Exactly k (get_rows s work n out))
-always-get k h = fixed 4 (λ s. get_rows s [] [] []) Closed (Open blank) (refl, refl) (open-not, refl) k (λ s. h s [] [] [])
+always-get k h = fixed 4 (λ s. get_rows s [] [] []) None (Some blank) (refl, refl) (open-not, refl) k (λ s. h s [] [] [])
 
 pub always-list : (k : ℕ) → ¬ ((s : Session) (work : List ℕ) (lines : List Line) → Exactly k (list_rows s work lines))
-always-list k h = fixed 4 (λ s. list_rows s [] []) Closed (Open blank) (refl, refl) (open-not, refl) k (λ s. h s [] [])
+always-list k h = fixed 4 (λ s. list_rows s [] []) None (Some blank) (refl, refl) (open-not, refl) k (λ s. h s [] [])
 
 pub always-free : (k : ℕ) → ¬ ((s : Session) (work : List ℕ) → Exactly k (free_rows s work))
-always-free k h = fixed 4 (λ s. free_rows s []) Closed (Open blank) (refl, refl) (open-not, refl) k (λ s. h s [])
+always-free k h = fixed 4 (λ s. free_rows s []) None (Some blank) (refl, refl) (open-not, refl) k (λ s. h s [])
 
 pub always-land : (k : ℕ) → ¬ ((s : Session) (card work : List ℕ) (i : ℕ) → Exactly k (land_rows s card work i))
-always-land k h = fixed 4 (λ s. land_rows s [] [] 0) Closed (Open blank) (refl, refl) (open-not, refl) k (λ s. h s [] [] 0)
+always-land k h = fixed 4 (λ s. land_rows s [] [] 0) None (Some blank) (refl, refl) (open-not, refl) k (λ s. h s [] [] 0)
 
 pub always-sync : (k : ℕ) → ¬ ((s : Session) (card work : List ℕ) → Exactly k (sync_rows s card work))
-always-sync k h = fixed 4 (λ s. sync_rows s [] []) Closed (Open blank) (refl, refl) (open-not, refl) k (λ s. h s [] [])
+always-sync k h = fixed 4 (λ s. sync_rows s [] []) None (Some blank) (refl, refl) (open-not, refl) k (λ s. h s [] [])
 
 pub always-unmount : (k : ℕ) → ¬ ((s : Session) (card work : List ℕ) → Exactly k (unmount_rows s card work))
-always-unmount k h = fixed 4 (λ s. unmount_rows s [] []) Closed (Open blank) (refl, refl) (open-not, refl) k (λ s. h s [] [])
+always-unmount k h = fixed 4 (λ s. unmount_rows s [] []) None (Some blank) (refl, refl) (open-not, refl) k (λ s. h s [] [])
 
 -- ---- the calls on a card: an image of no bytes is due 1, a fresh card is not
 
@@ -142,7 +142,7 @@ always-read-get k h = fixed 1 (λ x. read_get_rows x [] []) [] (fresh_card ten) 
 
 -- put in a session that fits and is not worn, of a good name, where there is an entry and room: not 8, not 2, nothing but 0
 pub put-where-room : (o : Opened) (work n d : List ℕ) → Fits o work → o.worn ≡ false → GoodName n
-    → ¬ NoEntry o work n → ¬ NoRoom o work (sectors_for (length d)) → (k : ℕ) → Exactly k (put_rows (Open o) work n d) → k ≡ 0
+    → ¬ NoEntry o work n → ¬ NoRoom o work (sectors_for (length d)) → (k : ℕ) → Exactly k (put_rows (Some o) work n d) → k ≡ 0
 put-where-room o work n d f w g e r k h =
     (h 0).1 (inr (λ c. never cc, inr (λ x. x f, inr (λ x. clash x w, inr (λ x. x g, inr (e, inr (r, refl)))))))
 
@@ -161,8 +161,8 @@ unfolding blank fits sizes_ok geo_ok
 blank-unfit = refl
 
 -- a put that says 0 in every open session, whatever it says in a closed one: a session that does not fit is due 2
-pub always-done : (f : Session → List ℕ → List ℕ → List ℕ → ℕ) → ((o : Opened) (work n d : List ℕ) → f (Open o) work n d ≡ 0)
+pub always-done : (f : Session → List ℕ → List ℕ → List ℕ → ℕ) → ((o : Opened) (work n d : List ℕ) → f (Some o) work n d ≡ 0)
     → ¬ ((s : Session) (work n d : List ℕ) → Exactly (f s work n d) (put_rows s work n d))
 always-done f z h =
-    let two = (h (Open blank) [] [] [] 2).1 (inr (open-not, inl (λ F. clash ((fits-mean blank []).1 F) blank-unfit, refl))) in
+    let two = (h (Some blank) [] [] [] 2).1 (inr (open-not, inl (λ F. clash ((fits-mean blank []).1 F) blank-unfit, refl))) in
     absurd (omega (arith, two, z blank [] [] []))

@@ -1,4 +1,5 @@
 -- A wrong build: "Accepting a dead stamp at C: a later sync brings it to life." It breaks `MountShows`, on a card that is computed. Assumes nothing.
+use Rattle.std.specs.Prelude.{Some, None}
 use mathlib.Core.Path.{◌≡◌, refl}
 use mathlib.Core.Bool.{Bool, true, false, ◌&&◌}
 use mathlib.Core.List.{List, []}
@@ -19,7 +20,6 @@ use Rattle.directory.specs.Directory.{entries_of, set_entry, apart}
 use Rattle.card.specs.Plan.{Plan, go_ahead, guard, ended, refused, done}
 use Rattle.card.specs.Sound.{view_ok, shape_ok, sound}
 use Rattle.card.specs.Make.{fresh_card}
-use Rattle.session.specs.declared.Session.TheVariants.{Closed, Open}
 use Rattle.store.specs.Steps.{mount_steps, sync_steps}
 use Rattle.store.specs.Mount.{Ended, mount_plan, opened_from, mount_done, mount}
 use Rattle.promises_answers.specs.PlainList.{Item, shown_by, shown_in, lookup}
@@ -36,7 +36,7 @@ mount_plan_by good card work =
 
 unfoldable pub mount_by : (List ℕ → Bool) → List ℕ → List ℕ → Ended
 mount_by good card work =
-    ended (mount_plan_by good card work) (λ k. record { answer = refused k; session = Closed; card = card; work = work }) (λ j a. mount_done card)
+    ended (mount_plan_by good card work) (λ k. record { answer = refused k; session = None; card = card; work = work }) (λ j a. mount_done card)
 
 -- what `MountShows` says, of any such mount
 abbrev pub MountShowsOf : (List ℕ → Bool) → Type 0
@@ -90,7 +90,7 @@ unfoldable pub late_synced : List ℕ
 late_synced = apply_steps (sync_steps (stretch 1) late_start late_start []) late_start
 
 -- what the card shows, what the session shows, and what the card shows after the sync
-pub late-shows : (lookup a (shown_by dead_card) ≡ none) × (lookup a (shown_in (Open (stretch 1)) late_start) ≡ some []) × (lookup a (shown_by late_synced) ≡ some [])
+pub late-shows : (lookup a (shown_by dead_card) ≡ none) × (lookup a (shown_in (Some (stretch 1)) late_start) ≡ some []) × (lookup a (shown_by late_synced) ≡ some [])
 unfolding computes dead_entry dead_card late_start late_synced shown_by
 late-shows = (refl, refl, refl)
 

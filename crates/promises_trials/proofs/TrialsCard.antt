@@ -1,11 +1,11 @@
 -- The images of a history on which the trial stores are tried: a fresh card, mount, put `a`, sync, put `b`. They are computed. Assumes nothing.
+use Rattle.std.specs.Prelude.{Some}
 use mathlib.Core.Path.{◌≡◌, refl}
 use mathlib.Core.Bool.{true, false}
 use mathlib.Core.List.{List, [], ◌∷◌}
 use mathlib.Core.Option.{none, some}
 use Prim.Native.Nat.{ℕ}
 use Rattle.words_sums.specs.Sums.{in_run}
-use Rattle.words.specs.declared.Found.TheVariants.{At}
 use Rattle.words.specs.Lists.{every, pairwise, first_at, eq_list, part, over, splice, set_part, pad, or_else}
 use Rattle.words.specs.Bytes.{word_at, words, word_bytes}
 use Rattle.sectors.specs.Sectors.{sec, set_sec, apply_steps, unless, diff_steps}
@@ -28,7 +28,6 @@ use Rattle.store.specs.Mount.{mount_plan, opened_from}
 use Rattle.store.specs.Edit.{put_place, place_in, run_in, put_plan, put_content, edit_work, put_run, put_work}
 use Rattle.store.specs.Sync.{both_plan, grown}
 use Rattle.session.specs.declared.Opened.{Opened}
-use Rattle.session.specs.declared.Session.TheVariants.{Open}
 use Rattle.counts.specs.declared.Geo.{Geo}
 use Rattle.promises_answers.specs.PlainList.{line_name, items, shown_in, lookup}
 
@@ -87,13 +86,13 @@ unfolding computes
 mount-goes = (refl, refl)
 
 -- what put finds: an entry and a first sector
-pub finds : (place_in (stretch 1) start a ≡ At 0) × (run_in (stretch 1) start 1 0 ≡ At 6) × (place_in (stretch 2) work_s b ≡ At 1) × (run_in (stretch 2) work_s 1 0 ≡ At 7)
+pub finds : (place_in (stretch 1) start a ≡ Some 0) × (run_in (stretch 1) start 1 0 ≡ Some 6) × (place_in (stretch 2) work_s b ≡ Some 1) × (run_in (stretch 2) work_s 1 0 ≡ Some 7)
 unfolding computes
 finds = (refl, refl, refl, refl)
 
 -- what the sessions show
-pub looks : (lookup a (shown_in (Open (stretch 1)) start) ≡ none) × (lookup a (shown_in (Open (stretch 1)) work_a) ≡ some seven)
-    × (lookup b (shown_in (Open (stretch 1)) work_a) ≡ none) × (lookup b (shown_in (Open (stretch 2)) work_b) ≡ some seven)
+pub looks : (lookup a (shown_in (Some (stretch 1)) start) ≡ none) × (lookup a (shown_in (Some (stretch 1)) work_a) ≡ some seven)
+    × (lookup b (shown_in (Some (stretch 1)) work_a) ≡ none) × (lookup b (shown_in (Some (stretch 2)) work_b) ≡ some seven)
 unfolding computes
 looks = (refl, refl, refl, refl)
 

@@ -1,4 +1,5 @@
 -- Wrong builds: "Writing table word c in the working image before the other sectors have landed", by a put and by a sync. Demand 3 is false of both. Assumes nothing.
+use Rattle.std.specs.Prelude.{Some, None}
 use mathlib.Core.Path.{◌≡◌, refl, ◌∙◌}
 use mathlib.Core.Bool.{false}
 use mathlib.Core.List.{List, [], ◌∷◌, Memᴰ}
@@ -13,8 +14,7 @@ use Rattle.card.specs.Sound.{sound}
 use Rattle.promises_answers.proofs.RowLaws.{clash}
 use Rattle.promises_crash.proofs.ReadsBy.{reads-sound}
 use Rattle.card.specs.Plan.{ended, done}
-use Rattle.session.specs.declared.Session.{Session}
-use Rattle.session.specs.declared.Session.TheVariants.{Closed, Open}
+use Rattle.session.specs.Session.{Session}
 use Rattle.store.specs.Steps.{set_word}
 use Rattle.promises_crash.specs.History.{Pending, written, play, all_written, Left, World, by_number, edited}
 use Rattle.promises_crash.proofs.Inv.{mk}
@@ -49,7 +49,7 @@ early-each j =
     ⊎_elim inl (λ e. ⊎_elim (λ f. inl (e ∙ f)) (λ f. inr (e ∙ f)) (one-landed 10 5 card_s work_early early-reads.0 early-reads.1 (omega arith) j))
     (one-landed 10 1 _ work_early (set_sec-length card_s 5 (sec work_early 5) ∙ early-reads.0) early-reads.1 (omega arith) j)
 
-early-done : early_put (Open (stretch 2)) work_s b seven ≡ record { answer = done 0; image = work_early }
+early-done : early_put (Some (stretch 2)) work_s b seven ≡ record { answer = done 0; image = work_early }
 unfolding early_put ended work_early work_b
 early-done = rw b-goes
 
@@ -58,7 +58,7 @@ pub word-early : ¬ PutsRead early_put
 unfolding synced
 word-early h = clash (reads-sound (reads_now early_landed left)) early-reads.2
   where
-    reads_now : CutsRead (mk card_s work_early (Open (stretch 2)) (all_written work_early synced.pending) synced.last)
+    reads_now : CutsRead (mk card_s work_early (Some (stretch 2)) (all_written work_early synced.pending) synced.last)
     reads_now = unfold synced edited by_number done in rw early-done at (h synced reach-synced b seven)
 
     left : Left (all_written work_early synced.pending) (length card_s) early_landed
@@ -67,8 +67,8 @@ word-early h = clash (reads-sound (reads_now early_landed left)) early-reads.2
 -- ---- a sync that writes it first, and then copies the working image in rising order, the table with the rest
 
 unfoldable pub copy_all : Session → List ℕ → List Step
-copy_all Closed work = []
-copy_all (Open s) work = copy_steps (set_word s.c.0 s.t.0 work) 0 s.geo.s (settle ∷ [])
+copy_all None work = []
+copy_all (Some s) work = copy_steps (set_word s.c.0 s.t.0 work) 0 s.geo.s (settle ∷ [])
 
 -- the same at a world; none where the sync is refused
 unfoldable pub copy_all_of : World → List Step

@@ -1,4 +1,5 @@
 -- Demand 3 of any put; three wrong builds of it; and the history on which they are tried: fresh card, mount, put `a`, sync, remove `a`. Assumes nothing.
+use Rattle.std.specs.Prelude.{Option, Some, None}
 use mathlib.Core.Path.{◌≡◌, refl, subst}
 use mathlib.Core.Bool.{true, false, not}
 use mathlib.Core.List.Memᴰ
@@ -7,8 +8,6 @@ use mathlib.Core.Logic.{◌⊎◌, inl, inr, ⊎_elim, ◌≢◌}
 use Prim.Native.Nat.{ℕ, ◌*◌, ◌<◌}
 use native.Mathlib.Decide.{ℕ_discrete}
 use lib.ListN.{length}
-use Rattle.words.specs.declared.Found.{Found}
-use Rattle.words.specs.declared.Found.TheVariants.{At}
 use Rattle.words.specs.Lists.{first_at, or_else}
 use Rattle.sectors.specs.Sectors.{sec, set_sec}
 use Rattle.sectors.proofs.SectorLaws.{set_sec-length}
@@ -18,8 +17,7 @@ use Rattle.directory.specs.Directory.{entries_of, gone, named}
 use Rattle.apages.specs.Runs.{run_for}
 use Rattle.card.specs.Plan.{Plan, guard, need, ended, do_it, do_at, refused, done, Changed}
 use Rattle.session.specs.declared.Opened.{Opened}
-use Rattle.session.specs.declared.Session.{Session}
-use Rattle.session.specs.declared.Session.TheVariants.{Closed, Open}
+use Rattle.session.specs.Session.{Session}
 use Rattle.session.specs.Views.{present_table, cut_table, present_page}
 use Rattle.session.specs.Fits.{fits}
 use Rattle.store.specs.Steps.{set_word}
@@ -75,40 +73,40 @@ one-shows w reach r S i z l m h o c =
 
 -- ---- the builds: put, by any choice of the entry and of the run
 
-unfoldable pub plan_by : (Opened → List ℕ → List ℕ → Found) → (Opened → List ℕ → ℕ → Found) → Opened → List ℕ → List ℕ → List ℕ → Plan
+unfoldable pub plan_by : (Opened → List ℕ → List ℕ → Option ℕ) → (Opened → List ℕ → ℕ → Option ℕ) → Opened → List ℕ → List ℕ → List ℕ → Plan
 plan_by place run s work n d =
     guard 2 (fits s work) (guard 9 (not s.worn) (guard 5 (good_name n)
     (need 7 (place s work n) (λ j. need 8 (run s work (sectors_for (length d))) (λ a. do_it j (record { 0 = a }))))))
 
-unfoldable pub put_by : (Opened → List ℕ → List ℕ → Found) → (Opened → List ℕ → ℕ → Found) → Session → List ℕ → List ℕ → List ℕ → Changed
-put_by place run Closed work n d = record { answer = refused 4; image = work }
-put_by place run (Open s) work n d =
+unfoldable pub put_by : (Opened → List ℕ → List ℕ → Option ℕ) → (Opened → List ℕ → ℕ → Option ℕ) → Session → List ℕ → List ℕ → List ℕ → Changed
+put_by place run None work n d = record { answer = refused 4; image = work }
+put_by place run (Some s) work n d =
     ended (plan_by place run s work n d) (λ k. record { answer = refused k; image = work }) (λ j i. record { answer = done 0; image = put_work s j i work n d })
 
 -- this store's run, without a goal
-unfoldable pub lowest_in : Opened → List ℕ → ℕ → Found
+unfoldable pub lowest_in : Opened → List ℕ → ℕ → Option ℕ
 lowest_in s work k = run_in s work k 0
 
 -- its put is one of them
 pub as-this-put : (s : Session) (work n d : List ℕ) → put_by place_in lowest_in s work n d ≡ put s work n d
 unfolding put_by plan_by put put_at lowest_in
-as-this-put Closed work n d = refl
-as-this-put (Open s) work n d = rw (put-plain s work n d)
+as-this-put None work n d = refl
+as-this-put (Some s) work n d = rw (put-plain s work n d)
 
 -- "Reusing a sector freed since the last sync while the cut view still holds it": the run is free in the present view
-unfoldable pub run_now : Opened → List ℕ → ℕ → Found
+unfoldable pub run_now : Opened → List ℕ → ℕ → Option ℕ
 run_now s work k = run_for k 0 (present_page s (sec work)) (present_page s (sec work))
 
 -- "Giving an entry a new name while its cut view is still present": the entry is absent in the present view
-unfoldable pub place_now : Opened → List ℕ → List ℕ → Found
+unfoldable pub place_now : Opened → List ℕ → List ℕ → Option ℕ
 place_now s work n =
     let tp = present_table s (sec work) in
     or_else (first_at (named tp (cut_table s (sec work)) n) 0 (entries_of s.geo (sec work))) (first_at (gone tp tp) 0 (entries_of s.geo (sec work)))
 
 -- "Writing table word c in the working image before the other sectors have landed": put itself writes it
 unfoldable pub early_put : Session → List ℕ → List ℕ → List ℕ → Changed
-early_put Closed work n d = record { answer = refused 4; image = work }
-early_put (Open s) work n d =
+early_put None work n d = record { answer = refused 4; image = work }
+early_put (Some s) work n d =
     ended (put_plan s work n d 0) (λ k. record { answer = refused k; image = work })
     (λ j i. record { answer = done 0; image = set_word s.c.0 s.t.0 (put_work s j i work n d) })
 
@@ -118,19 +116,19 @@ unfoldable pub work_r : List ℕ
 work_r = remove_work (stretch 2) 0 work_s a
 
 unfoldable pub removed : World
-removed = mk card_s work_r (Open (stretch 2)) (all_written work_r synced.pending) synced.last
+removed = mk card_s work_r (Some (stretch 2)) (all_written work_r synced.pending) synced.last
 
-remove-finds : first_at (named (present_table (stretch 2) (sec work_s)) (present_table (stretch 2) (sec work_s)) a) 0 (entries_of (stretch 2).geo (sec work_s)) ≡ At 0
+remove-finds : first_at (named (present_table (stretch 2) (sec work_s)) (present_table (stretch 2) (sec work_s)) a) 0 (entries_of (stretch 2).geo (sec work_s)) ≡ Some 0
 unfolding computes
 remove-finds = refl
 
 remove-plan : (s : Opened) (work n : List ℕ) (j : ℕ) → fits s work ≡ true → s.worn ≡ false → good_name n ≡ true
-    → first_at (named (present_table s (sec work)) (present_table s (sec work)) n) 0 (entries_of s.geo (sec work)) ≡ At j → remove_plan s work n ≡ do_at j
+    → first_at (named (present_table s (sec work)) (present_table s (sec work)) n) 0 (entries_of s.geo (sec work)) ≡ Some j → remove_plan s work n ≡ do_at j
 unfolding remove_plan guard need
 remove-plan s work n j f w g p = rw (f, g, p, w)
 
 remove-done : (s : Opened) (card work : List ℕ) (p : Pending) (m : List Item) (n : List ℕ) (j : ℕ) → remove_plan s work n ≡ do_at j
-    → after (remove_c n) (mk card work (Open s) p m) ≡ mk card (remove_work s j work n) (Open s) (all_written (remove_work s j work n) p) m
+    → after (remove_c n) (mk card work (Some s) p m) ≡ mk card (remove_work s j work n) (Some s) (all_written (remove_work s j work n) p) m
 unfolding after edited remove ended done by_number
 remove-done s card work p m n j e = rw e
 

@@ -1,4 +1,5 @@
 -- A session whose t comes to the top: a fresh card, mount, and 2,147,483,646 syncs. Its worlds are reached by this store, by induction. Assumes nothing.
+use Rattle.std.specs.Prelude.{Some}
 use mathlib.Core.Path.{◌≡◌, refl, sym, ap, subst, ◌∙◌}
 use mathlib.Core.Bool.{true, false, not}
 use mathlib.Core.List.{List, []}
@@ -17,7 +18,6 @@ use Rattle.words.proofs.SpliceLaws.{splice-length, splice-before, splice-after, 
 use Rattle.sectors.specs.Sectors.{apply_steps}
 use Rattle.counts.specs.Stamps.{max_tx}
 use Rattle.card.specs.Plan.{go_ahead, guard}
-use Rattle.session.specs.declared.Session.TheVariants.{Open}
 use Rattle.session.specs.Fits.{fits}
 use Rattle.session.proofs.FitLaws.{Fit, fit-inv}
 use Rattle.store.specs.Steps.{set_word, sync_steps, at_top, sync_work}
@@ -68,10 +68,10 @@ word-again c t u x =
 pub record Far (n : ℕ) : Type 0 where
   pub p : Pending
   pub m : List Item
-  pub reach : Reach (mk (img n) (img n) (Open (stretch (n + 1))) p m)
-  pub plain : lookup b (shown_in (Open (stretch (n + 1))) (img n)) ≡ none
+  pub reach : Reach (mk (img n) (img n) (Some (stretch (n + 1))) p m)
+  pub plain : lookup b (shown_in (Some (stretch (n + 1))) (img n)) ≡ none
 
-at_first : (img 0 ≡ start) × (lookup b (shown_in (Open (stretch 1)) start) ≡ none)
+at_first : (img 0 ≡ start) × (lookup b (shown_in (Some (stretch 1)) start) ≡ none)
 unfolding computes img
 at_first = (refl, refl)
 
@@ -82,7 +82,7 @@ far-first = record { p = mounted.pending; m = mounted.last; reach = rw at_first.
 -- one sync more
 module _ (n : ℕ) (f : Far n) where
   abbrev w : World
-  w = mk (img n) (img n) (Open (stretch (n + 1))) f.p f.m
+  w = mk (img n) (img n) (Some (stretch (n + 1))) f.p f.m
 
   far-fits : fits (stretch (n + 1)) (img n) ≡ true
   far-fits = always-fits f.reach
@@ -108,7 +108,7 @@ module _ (n : ℕ) (f : Far n) where
   grows h = rw (ne_eqb (n + 1) max_tx (omega arith))
 
   -- nothing else is shown
-  still : shown_in (Open (grown (at_top (stretch (n + 1))) (stretch (n + 1)))) (sync_work (stretch (n + 1)) (img n)) ≡ shown_in (Open (stretch (n + 1))) (img n)
+  still : shown_in (Some (grown (at_top (stretch (n + 1))) (stretch (n + 1)))) (sync_work (stretch (n + 1)) (img n)) ≡ shown_in (Some (stretch (n + 1))) (img n)
   unfolding sync_work
   still =
       rest-shows (stretch (n + 1)) _ (sync-rest (stretch (n + 1)) (img n) F refl) (at_top (stretch (n + 1)))
@@ -118,7 +118,7 @@ module _ (n : ℕ) (f : Far n) where
   far-next h =
       record {
         p = play (sync_steps (stretch (n + 1)) (img n) (img n) []) f.p;
-        m = shown_in (Open (stretch (n + 1))) (img n);
+        m = shown_in (Some (stretch (n + 1))) (img n);
         reach = rw (far-card, far-work, grows h) at (subst Reach (sync-done (stretch (n + 1)) (img n) (img n) f.p f.m far-goes) (call f.reach sync_c));
         plain = ap (lookup b) (rw (far-work, grows h) at still) ∙ f.plain;
       }

@@ -1,10 +1,10 @@
 -- Pairs of apages at their edges, computed: how many there are, where they lie, and that no run crosses out of a page. Assumes nothing.
+use Rattle.std.specs.Prelude.{Some, None}
 use mathlib.Core.Path.{◌≡◌, refl}
 use mathlib.Core.Bool.{true, false}
 use mathlib.Core.List.{[], ◌∷◌}
 use Prim.Native.Nat.{ℕ}
 use Rattle.words.specs.Lists.{every}
-use Rattle.words.specs.declared.Found.TheVariants.{At, Nowhere}
 use Rattle.counts.specs.declared.Geo.{Geo}
 use Rattle.counts.specs.Geometry.{g_p, g_dir, g_f, geo_ok}
 use Rattle.entries.specs.declared.Run.{Run}
@@ -68,10 +68,10 @@ unfolding run_ok every pieces_of piece_ok sectors_for g_f g_dir g_p card run
 inside = refl
 
 -- the search passes over a page's end
-found : find_run 2 4095 (0 ∷ 0 ∷ 0 ∷ []) ≡ At 4096
+found : find_run 2 4095 (0 ∷ 0 ∷ 0 ∷ []) ≡ Some 4096
 unfolding find_run all_clear
 found = refl
 
-nowhere : find_run 2 4095 (0 ∷ 0 ∷ []) ≡ Nowhere
+nowhere : find_run 2 4095 (0 ∷ 0 ∷ []) ≡ None
 unfolding find_run all_clear
 nowhere = refl

@@ -1,5 +1,6 @@
 -- Wrong builds of put: a sector freed since the last sync is used; an entry gets a new name while the cut view shows it. Each gives 0, and with one sector
 -- landed a cut reads as no moment did: demand 3 is false of it. Assumes nothing.
+use Rattle.std.specs.Prelude.{Option, Some}
 use mathlib.Core.Path.{◌≡◌, refl, sym, ap, ◌∙◌}
 use mathlib.Core.Bool.{true, false}
 use mathlib.Core.List.{List, [], ◌∷◌}
@@ -8,15 +9,12 @@ use mathlib.Core.Option.{none, some}
 use Prim.Native.Nat.{ℕ, ◌*◌, ◌<◌}
 use native.Mathlib.Omega.{arith}
 use lib.ListN.{length}
-use Rattle.words.specs.declared.Found.{Found}
-use Rattle.words.specs.declared.Found.TheVariants.{At}
 use Rattle.sectors.specs.declared.Sector.{Sector}
 use Rattle.sectors.specs.Sectors.{sec, set_sec}
 use Rattle.entries.specs.Entries.{good_name, sectors_for}
 use Rattle.card.specs.Plan.{guard, need, ended, do_it, done, Changed}
 use Rattle.session.specs.declared.Opened.{Opened}
-use Rattle.session.specs.declared.Session.{Session}
-use Rattle.session.specs.declared.Session.TheVariants.{Open}
+use Rattle.session.specs.Session.{Session}
 use Rattle.session.specs.Fits.{fits}
 use Rattle.store.specs.Edit.{place_in, put_work, remove_work}
 use Rattle.promises_answers.specs.PlainList.{Item, shown_by, lookup}
@@ -27,14 +25,14 @@ use Rattle.promises_trials.proofs.TrialsSync.{some-none}
 use Rattle.promises_trials.proofs.TrialsEdit.{PutsRead, one-shows, plan_by, put_by, lowest_in, run_now, place_now, work_r, removed, reach-removed, removed-fits}
 
 -- a put that finds an entry and a run goes through
-by-plan : (place : Opened → List ℕ → List ℕ → Found) (run : Opened → List ℕ → ℕ → Found) (s : Opened) (work n d : List ℕ) (j : ℕ) (i : Sector) → fits s work ≡ true
-    → s.worn ≡ false → good_name n ≡ true → place s work n ≡ At j → run s work (sectors_for (length d)) ≡ At i.0 → plan_by place run s work n d ≡ do_it j i
+by-plan : (place : Opened → List ℕ → List ℕ → Option ℕ) (run : Opened → List ℕ → ℕ → Option ℕ) (s : Opened) (work n d : List ℕ) (j : ℕ) (i : Sector) → fits s work ≡ true
+    → s.worn ≡ false → good_name n ≡ true → place s work n ≡ Some j → run s work (sectors_for (length d)) ≡ Some i.0 → plan_by place run s work n d ≡ do_it j i
 unfolding plan_by guard need
 by-plan place run s work n d j i f w g p r = rw (f, g, p, r, w)
 
 -- what it gives
-by-done : (place : Opened → List ℕ → List ℕ → Found) (run : Opened → List ℕ → ℕ → Found) (s : Opened) (work n d : List ℕ) (j : ℕ) (i : Sector)
-    → plan_by place run s work n d ≡ do_it j i → put_by place run (Open s) work n d ≡ record { answer = done 0; image = put_work s j i work n d }
+by-done : (place : Opened → List ℕ → List ℕ → Option ℕ) (run : Opened → List ℕ → ℕ → Option ℕ) (s : Opened) (work n d : List ℕ) (j : ℕ) (i : Sector)
+    → plan_by place run s work n d ≡ do_it j i → put_by place run (Some s) work n d ≡ record { answer = done 0; image = put_work s j i work n d }
 unfolding put_by ended
 by-done place run s work n d j i e = rw e
 
@@ -55,7 +53,7 @@ card-sized = refl
 
 -- ---- a sector freed since the last sync is used
 
-reuse-finds : (place_in (stretch 2) work_r b ≡ At 1) × (run_now (stretch 2) work_r 1 ≡ At 6) × (lowest_in (stretch 2) work_r 1 ≡ At 7)
+reuse-finds : (place_in (stretch 2) work_r b ≡ Some 1) × (run_now (stretch 2) work_r 1 ≡ Some 6) × (lowest_in (stretch 2) work_r 1 ≡ Some 7)
 unfolding computes work_r remove_work run_now lowest_in
 reuse-finds = (refl, refl, refl)
 
@@ -81,7 +79,7 @@ cut-view-reused h =
 
 -- ---- an entry gets a new name while the cut view shows it
 
-over-finds : (place_now (stretch 2) work_r b ≡ At 0) × (place_in (stretch 2) work_r b ≡ At 1)
+over-finds : (place_now (stretch 2) work_r b ≡ Some 0) × (place_in (stretch 2) work_r b ≡ Some 1)
 unfolding computes work_r remove_work place_now
 over-finds = (refl, refl)
 

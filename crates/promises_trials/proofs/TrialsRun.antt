@@ -1,4 +1,5 @@
 -- A history on which the trial stores are tried: a fresh card, mount, put `a`, sync, put `b`; its worlds, and what their calls give. Assumes nothing.
+use Rattle.std.specs.Prelude.{Some, None}
 use mathlib.Core.Path.{◌≡◌, refl, subst, ◌∙◌}
 use mathlib.Core.Bool.{Bool, true, false, not}
 use mathlib.Core.List.{List, []}
@@ -7,7 +8,6 @@ use Prim.Native.Nat.{ℕ, ◌*◌}
 use borrow.Author.Tests.{eq-eqb}
 use lib.Dec.{eqb}
 use lib.ListN.{length}
-use Rattle.words.specs.declared.Found.TheVariants.{At}
 use Rattle.words.specs.Lists.{every}
 use Rattle.sectors.specs.declared.Sector.{Sector}
 use Rattle.sectors.specs.Sectors.{apply_steps}
@@ -23,8 +23,7 @@ use Rattle.store.specs.Edit.{place_in, run_in, put_plan, put_work, put_at, put}
 use Rattle.store.proofs.Plans.{put-plain}
 use Rattle.store.specs.Sync.{both_plan, grown, sync_done, sync}
 use Rattle.session.specs.declared.Opened.{Opened}
-use Rattle.session.specs.declared.Session.{Session}
-use Rattle.session.specs.declared.Session.TheVariants.{Closed, Open}
+use Rattle.session.specs.Session.{Session}
 use Rattle.session.specs.Fits.{fits}
 use Rattle.session.proofs.FitLaws.{fit-inv}
 use Rattle.promises_answers.specs.PlainList.{Item, shown_by, shown_in, lookup}
@@ -35,14 +34,14 @@ use Rattle.promises_trials.proofs.TrialsCard.{ten, ten-ok, a, b, seven, stretch,
 
 -- a session in its first stretch: t is 1
 unfoldable pub is_first : Session → Bool
-is_first Closed = false
-is_first (Open s) = eqb s.t.0 1
+is_first None = false
+is_first (Some s) = eqb s.t.0 1
 
 -- ---- the calls of any session that fits
 
 -- put goes through where it finds an entry and a run
 put-plan : (s : Opened) (work n d : List ℕ) (j : ℕ) (i : Sector) → fits s work ≡ true → s.worn ≡ false → good_name n ≡ true
-    → place_in s work n ≡ At j → run_in s work (sectors_for (length d)) 0 ≡ At i.0 → put_plan s work n d 0 ≡ do_it j i
+    → place_in s work n ≡ Some j → run_in s work (sectors_for (length d)) 0 ≡ Some i.0 → put_plan s work n d 0 ≡ do_it j i
 unfolding guard need
 put-plan s work n d j i f w g p r = put-plain s work n d ∙ rw (f, g, p, r, w)
 
@@ -54,14 +53,14 @@ sync-plan s card work l f w = rw (eq-eqb (length card) (512 * s.geo.s) l, f, w)
 
 -- the world after such a put
 put-done : (s : Opened) (card work : List ℕ) (p : Pending) (m : List Item) (n d : List ℕ) (j : ℕ) (i : Sector) → put_plan s work n d 0 ≡ do_it j i
-    → after (put_c n d 0) (mk card work (Open s) p m) ≡ mk card (put_work s j i work n d) (Open s) (all_written (put_work s j i work n d) p) m
+    → after (put_c n d 0) (mk card work (Some s) p m) ≡ mk card (put_work s j i work n d) (Some s) (all_written (put_work s j i work n d) p) m
 unfolding after edited put_at ended done by_number
 put-done s card work p m n d j i e = rw e
 
 -- and after such a sync
 pub sync-done : (s : Opened) (card work : List ℕ) (p : Pending) (m : List Item) → both_plan s card work (guard 9 (not s.worn) go_ahead) ≡ go_ahead
-    → after sync_c (mk card work (Open s) p m)
-    ≡ mk (apply_steps (sync_steps s card work []) card) (sync_work s work) (Open (grown (at_top s) s)) (play (sync_steps s card work []) p) (shown_in (Open s) work)
+    → after sync_c (mk card work (Some s) p m)
+    ≡ mk (apply_steps (sync_steps s card work []) card) (sync_work s work) (Some (grown (at_top s) s)) (play (sync_steps s card work []) p) (shown_in (Some s) work)
 unfolding after stepped steps_of syncs_by sync sync_done ended done by_number
 sync-done s card work p m e = rw e
 
@@ -69,19 +68,19 @@ sync-done s card work p m e = rw e
 
 -- after mount of a fresh card
 unfoldable pub mounted : World
-mounted = mk start start (Open (stretch 1)) (play (mount_steps (fresh_card ten)) (settled (fresh_card ten))) (shown_by (fresh_card ten))
+mounted = mk start start (Some (stretch 1)) (play (mount_steps (fresh_card ten)) (settled (fresh_card ten))) (shown_by (fresh_card ten))
 
 -- after put of `a`
 unfoldable pub put_a : World
-put_a = mk start work_a (Open (stretch 1)) (all_written work_a mounted.pending) mounted.last
+put_a = mk start work_a (Some (stretch 1)) (all_written work_a mounted.pending) mounted.last
 
 -- after sync
 unfoldable pub synced : World
-synced = mk card_s work_s (Open (stretch 2)) (play (sync_steps (stretch 1) start work_a []) put_a.pending) (shown_in (Open (stretch 1)) work_a)
+synced = mk card_s work_s (Some (stretch 2)) (play (sync_steps (stretch 1) start work_a []) put_a.pending) (shown_in (Some (stretch 1)) work_a)
 
 -- after put of `b`
 unfoldable pub put_b : World
-put_b = mk card_s work_b (Open (stretch 2)) (all_written work_b synced.pending) synced.last
+put_b = mk card_s work_b (Some (stretch 2)) (all_written work_b synced.pending) synced.last
 
 mount-is : after mount_c (after_cut (fresh_card ten) (fresh_card ten)) ≡ mounted
 unfolding after stepped steps_of before end_open after_cut mount mount_done ended done by_number mounted start

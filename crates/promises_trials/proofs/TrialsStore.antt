@@ -1,4 +1,5 @@
 -- Trial stores: "one that stores nothing", "one that makes up the free or file count". Assumes nothing.
+use Rattle.std.specs.Prelude.{Some}
 use mathlib.Core.Path.{◌≡◌, refl, sym, ap, ◌∙◌}
 use mathlib.Core.Bool.{true}
 use mathlib.Core.List.{List, [], ◌∷◌}
@@ -19,12 +20,11 @@ use Rattle.card.specs.Make.{fresh_card}
 use Rattle.card.proofs.FreshLaws.{fresh-geo, fresh-shape, fresh-sound, fresh-empty}
 use Rattle.card.specs.Reading.{files_shown, read, read_list}
 use Rattle.session.specs.declared.Opened.{Opened}
-use Rattle.session.specs.declared.Session.{Session}
-use Rattle.session.specs.declared.Session.TheVariants.{Open}
+use Rattle.session.specs.Session.{Session}
 use Rattle.session.specs.Fits.{fits}
 use Rattle.session.specs.FitMeans.{Fits}
 use Rattle.store.specs.Edit.{put}
-use Rattle.store.specs.declared.Room.{Room}
+use Rattle.store.specs.Given.{Room}
 use Rattle.store.specs.Look.{list, free}
 use Rattle.promises_answers.specs.PlainList.{Item, items, lookup, With, shown_by, shown_in}
 use Rattle.promises_answers.specs.PlainCalls.{Lines}
@@ -91,7 +91,7 @@ has_some [] n d p e = never (cc)
 has_some (x ∷ l) n d p e = absurd (omega (arith, e))
 
 -- a call that keeps what is promised of free gives this store's figures, both
-pub free-true : (f : Session → List ℕ → Room) → FreePromise f → (s : Opened) (work : List ℕ) → Fits s work → f (Open s) work ≡ free (Open s) work
+pub free-true : (f : Session → List ℕ → Room) → FreePromise f → (s : Opened) (work : List ℕ) → Fits s work → f (Some s) work ≡ free (Some s) work
 free-true f h s work fit =
     let x = h s work fit in
     let y = free-promise s work fit in
@@ -106,8 +106,8 @@ pub read-free-true : (card : List ℕ) → shape_ok card ≡ true → sound card
 read-free-true card p q k h = omega (arith, h, (card-shows card p q).counts.4)
 
 -- lines that tell the names and lengths of the files, one line a file, are as many as this store's list counts
-pub list-true : (s : Opened) (work : List ℕ) → fits s work ≡ true → (ls : List Line) → Lines (shown_in (Open s) work) ls
-    → (lines : List Line) → length (shown_in (Open s) work) ≤ length lines → length ls ≡ (list (Open s) work lines).answer.count
+pub list-true : (s : Opened) (work : List ℕ) → fits s work ≡ true → (ls : List Line) → Lines (shown_in (Some s) work) ls
+    → (lines : List Line) → length (shown_in (Some s) work) ≤ length lines → length ls ≡ (list (Some s) work lines).answer.count
 unfolding done
 list-true s work f ls t lines h = sym (lines-length t) ∙ sym (ap (λ r. r.answer.count) ((session-shows s work f).lists lines h))
 

@@ -8,7 +8,7 @@ use Prim.Native.Nat.{ℕ}
 use lib.ListN.{length}
 use Rattle.words.proofs.BoolLaws.{never}
 use Rattle.sectors.specs.Sectors.{Step}
-use Rattle.session.specs.declared.Session.{Session}
+use Rattle.session.specs.Session.{Session}
 use Rattle.store.specs.Mount.{Ended}
 use Rattle.store.specs.Sync.{sync}
 use Rattle.promises_answers.specs.PlainList.{Item, lookup, shown_in}

@@ -1,4 +1,5 @@
 -- The trial store "whose sync writes the table sector first" at a cut between its steps: demand 3 is false of it. Assumes nothing.
+use Rattle.std.specs.Prelude.{Some, None}
 use mathlib.Core.Path.{◌≡◌, refl, ◌∙◌}
 use mathlib.Core.List.{List, [], ◌∷◌, Memᴰ}
 use mathlib.Core.Logic.{◌⊎◌, inl, inr, ⊎_elim, ◌≢◌}
@@ -10,8 +11,7 @@ use Rattle.words.proofs.SpliceLaws.{splice-length}
 use Rattle.sectors.specs.Sectors.{sec, set_sec, Step, write}
 use Rattle.sectors.proofs.SectorLaws.{set_sec-length}
 use Rattle.sectors.proofs.FlatLaws.{sec-in, set_here, set_there}
-use Rattle.session.specs.declared.Session.{Session}
-use Rattle.session.specs.declared.Session.TheVariants.{Closed, Open}
+use Rattle.session.specs.Session.{Session}
 use Rattle.store.specs.Steps.{set_word, table_sector}
 use Rattle.store.specs.Sync.{sync}
 use Rattle.promises_answers.specs.PlainList.{shown_in}
@@ -37,8 +37,8 @@ of-these-steps w r n card x = ⊎_elim inl (λ q. inr q.1) ((demand-three w r).1
 
 -- the steps of a sync that writes the table sector first
 unfoldable pub first_by : Session → List ℕ → List ℕ → List Step
-first_by Closed card work = []
-first_by (Open s) card work = table_first s card work
+first_by None card work = []
+first_by (Some s) card work = table_first s card work
 
 -- the same at a world; none where the sync is refused
 unfoldable pub table_first_of : World → List Step

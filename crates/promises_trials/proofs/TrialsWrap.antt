@@ -1,5 +1,6 @@
 -- A wrong build: "Comparing counts after a wrap, so 2,147,483,648 is below 1." Its t goes on past the top, and a put that was never synced is read after a
 -- cut: demand 3 is false of it. Assumes nothing.
+use Rattle.std.specs.Prelude.{Some, None}
 use mathlib.Core.Path.{◌≡◌, refl, ap, ◌∙◌}
 use mathlib.Core.Bool.{Bool, false, not, cond}
 use mathlib.Core.List.Memᴰ
@@ -9,7 +10,6 @@ use Prim.Native.Nat.{ℕ, ◌*◌, ◌%◌}
 use native.Mathlib.Omega.{arith}
 use lib.Dec.{leb}
 use lib.ListN.{length, get_or}
-use Rattle.words.specs.declared.Found.TheVariants.{At}
 use Rattle.sectors.specs.Sectors.{sec, set_sec, apply_steps}
 use Rattle.sectors.proofs.SectorLaws.{set_sec-length}
 use Rattle.counts.specs.declared.Stamp.{Stamp}
@@ -22,8 +22,7 @@ use Rattle.card.specs.Plan.{Plan, guard, need, ended, do_it, go_ahead, refused, 
 use Rattle.card.specs.Files.{cons_file, files_of}
 use Rattle.card.specs.Reading.{files_in, files_shown}
 use Rattle.session.specs.declared.Opened.{Opened}
-use Rattle.session.specs.declared.Session.{Session}
-use Rattle.session.specs.declared.Session.TheVariants.{Closed, Open}
+use Rattle.session.specs.Session.{Session}
 use Rattle.store.specs.Steps.{sync_steps, sync_work}
 use Rattle.store.specs.Mount.{Ended}
 use Rattle.store.specs.Edit.{place_in, run_in, put_work, put}
@@ -83,18 +82,18 @@ wrapped tab x = leb (x.txc.0 % 2147483648) (get_or tab x.cc.0 0)
 
 -- so its t need not stop: "t grows by 1", always
 unfoldable pub on_sync : Session → List ℕ → List ℕ → Ended
-on_sync Closed card work = record { answer = refused 4; session = Closed; card = card; work = work }
-on_sync (Open s) card work =
-    ended (both_plan s card work (guard 9 (not s.worn) go_ahead)) (λ k. record { answer = refused k; session = Open s; card = card; work = work })
-    (λ j i. record { answer = done 0; session = Open (grown false s); card = apply_steps (sync_steps s card work []) card; work = sync_work s work })
+on_sync None card work = record { answer = refused 4; session = None; card = card; work = work }
+on_sync (Some s) card work =
+    ended (both_plan s card work (guard 9 (not s.worn) go_ahead)) (λ k. record { answer = refused k; session = Some s; card = card; work = work })
+    (λ j i. record { answer = done 0; session = Some (grown false s); card = apply_steps (sync_steps s card work []) card; work = sync_work s work })
 
 -- and its put does not ask whether t has passed the top
 unfoldable pub on_plan : Opened → List ℕ → List ℕ → List ℕ → Plan
 on_plan s work n d = guard 5 (good_name n) (need 7 (place_in s work n) (λ j. need 8 (run_in s work (sectors_for (length d)) 0) (λ i. do_it j (record { 0 = i }))))
 
 unfoldable pub on_put : Session → List ℕ → List ℕ → List ℕ → Changed
-on_put Closed work n d = record { answer = refused 4; image = work }
-on_put (Open s) work n d =
+on_put None work n d = record { answer = refused 4; image = work }
+on_put (Some s) work n d =
     ended (on_plan s work n d) (λ k. record { answer = refused k; image = work }) (λ j i. record { answer = done 0; image = put_work s j i work n d })
 
 -- ---- the history: fresh card, mount, 2,147,483,647 syncs, put `b` of 0 bytes; the directory lands, and a cut
@@ -105,7 +104,7 @@ work_past = put_work (stretch 2147483648) 0 (record { 0 = 0 }) (img 2147483647) 
 unfoldable pub past_card : List ℕ
 past_card = set_sec (img 2147483647) 5 (sec work_past 5)
 
-past_finds : (place_in (stretch 2147483648) (img 2147483647) b ≡ At 0) × (run_in (stretch 2147483648) (img 2147483647) (sectors_for 0) 0 ≡ At 0)
+past_finds : (place_in (stretch 2147483648) (img 2147483647) b ≡ Some 0) × (run_in (stretch 2147483648) (img 2147483647) (sectors_for 0) 0 ≡ Some 0)
 unfolding computes img
 past_finds = (refl, refl)
 
@@ -120,17 +119,17 @@ module _ (f : Far 2147483646) where
   s = stretch 2147483647
 
   abbrev w : World
-  w = mk (img 2147483646) (img 2147483646) (Open s) f.p f.m
+  w = mk (img 2147483646) (img 2147483646) (Some s) f.p f.m
 
   abbrev v : World
-  v = mk (img 2147483647) (img 2147483647) (Open (stretch 2147483648)) (settled (img 2147483647)) (shown_in (Open s) (img 2147483646))
+  v = mk (img 2147483647) (img 2147483647) (Some (stretch 2147483648)) (settled (img 2147483647)) (shown_in (Some s) (img 2147483646))
 
-  on-sync : on_sync (Open s) (img 2147483646) (img 2147483646)
-      ≡ record { answer = done 0; session = Open (stretch 2147483648); card = img 2147483647; work = img 2147483647 }
+  on-sync : on_sync (Some s) (img 2147483646) (img 2147483646)
+      ≡ record { answer = done 0; session = Some (stretch 2147483648); card = img 2147483647; work = img 2147483647 }
   unfolding on_sync ended grown
   on-sync = rw (far-goes 2147483646 f, far-card 2147483646 f, far-work 2147483646 f)
 
-  sync-zero : (sync (Open s) (img 2147483646) (img 2147483646)).answer.number ≡ 0
+  sync-zero : (sync (Some s) (img 2147483646) (img 2147483646)).answer.number ≡ 0
   unfolding sync sync_done ended done
   sync-zero = rw (far-goes 2147483646 f)
 
@@ -142,11 +141,11 @@ module _ (f : Far 2147483646) where
   unfolding stepped by_number done
   after-sync = rw (on-sync, on-steps)
 
-  on-put : on_put (Open (stretch 2147483648)) (img 2147483647) b [] ≡ record { answer = done 0; image = work_past }
+  on-put : on_put (Some (stretch 2147483648)) (img 2147483647) b [] ≡ record { answer = done 0; image = work_past }
   unfolding on_put on_plan ended guard need work_past
   on-put = rw (good.1, past_finds.0, past_finds.1)
 
-  then-put : then_put on_sync on_put w b [] ≡ mk (img 2147483647) work_past (Open (stretch 2147483648)) (all_written work_past (settled (img 2147483647))) (shown_in (Open s) (img 2147483646))
+  then-put : then_put on_sync on_put w b [] ≡ mk (img 2147483647) work_past (Some (stretch 2147483648)) (all_written work_past (settled (img 2147483647))) (shown_in (Some s) (img 2147483646))
   unfolding edited by_number done
   then-put = rw (after-sync, on-put)
 

@@ -1,6 +1,7 @@
 // The reading program's report on each stored card that is named as an argument, so that many cards are tried by one crate.
 #![tactic(auto)]
 
+use card::Refusal;
 use std::env::FillError;
 use std::fs::File;
 use std::io::{ErrorKind, Write};
@@ -32,7 +33,7 @@ fn case(rt: &HostRuntime, path: &[u8]) -> io::Result<()> {
     let mut card = [0u8; 65537];
     let n = reader_report::read_full(&mut file, &mut card)?;
     if 65536 < n {
-        return reader_report::refused(&mut out, 1);
+        return reader_report::refused(&mut out, u32::from(Refusal::Shape));
     }
     reader_report::report(&mut out, &card[0..n])
 }

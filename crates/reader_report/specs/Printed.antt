@@ -2,7 +2,7 @@
 use Rattle.std.specs.Prelude.{ℕ, zero, suc, ◌==◌, List, [], ◌∷◌, ◌++◌, length, take, codes, nat_le, if◌then◌else◌}
 use Rattle.std.specs.Fmt.{decimal}
 use Rattle.card.specs.declared.Line.{Line}
-use Rattle.card.specs.declared.Report.{Report}
+use Rattle.card.specs.Plan.{Report}
 use Rattle.card.specs.Reading.{read, read_line}
 
 -- the byte for a space, and the one that ends a line

@@ -1,12 +1,14 @@
 // What the reading program prints of a card, and how it reads one.
 #![tactic(auto)]
 
-ghost use Rattle.std.specs.Prelude.{◌≡◌, ◌<◌, ◌≤◌, true, length, take, OnOk, IfOk};
+ghost use Rattle.std.specs.Prelude.{◌≡◌, ◌<◌, ◌≤◌, true, length, take, Ok, OnOk, IfOk};
 ghost use Rattle.std.specs.Io.KnownBytes.{Appends, Consumes, IsAtEnd};
+ghost use Rattle.card.specs.Answers.{reported_of};
+ghost use Rattle.card.specs.Reading.{read, files_shown};
 ghost use Rattle.card.specs.Sound.{shape_ok, sound};
 ghost use Rattle.reader_report.specs.Printed.{refusal_line, name_bytes, file_line, file_lines, card_lines, report_lines};
 
-use card::{Line, Report};
+use card::{Contents, Line};
 use std::io;
 use std::io::{Read, Write};
 
@@ -17,6 +19,7 @@ pub fn read_full<R: Read>(input: &mut R, card: &mut [u8]) -> io::Result<usize>
     ensures whole { IfOk result (λ n. n < length card.new → IsAtEnd (R.remaining input.new)) }
 {
     let mut n = 0;
+    // How much a read gives is the reader's choice: no `for` has steps that vary.
     while n < card.len() {
         let k = input.read(&mut card[n..])?;
         if k == 0 {
@@ -48,28 +51,26 @@ fn print_name<W: Write>(out: &mut W, name: &[u8], n: usize) -> io::Result<()>
 fn print_line<W: Write>(out: &mut W, l: Line) -> io::Result<()>
     ensures { OnOk result (Appends (W.contents out.old) (W.contents out.new) (file_line l)) }
 {
-    let name = l.name;
-    let run = l.run;
-    print_name(out, &name, l.size as usize)?;
-    writeln!(out, " {} {} {}", run.bytes, run.start.0, run.sectors)
+    print_name(out, &l.name, l.size as usize)?;
+    writeln!(out, " {} {} {}", l.run.bytes, l.run.start.0, l.run.sectors)
 }
 
-// The lines of the first n files of a sound card.
+// The lines of the first n files of a sound card, which has as many.
 fn print_lines<W: Write>(out: &mut W, card: &[u8], n: u32) -> io::Result<()>
-    requires { (shape_ok card.now ≡ true) × (sound card.now ≡ true) }
+    requires { (shape_ok card.now ≡ true) × ((sound card.now ≡ true) × (n ≤ length (files_shown card.now))) }
     ensures { OnOk result (Appends (W.contents out.old) (W.contents out.new) (file_lines card.now n)) }
 {
     for i in 0..n {
-        let l = card_read::read_line_in(card, i);
-        print_line(out, l.line)?;
+        let line = card_read::read_line_in(card, i).unwrap();
+        print_line(out, line)?;
     }
     Ok(())
 }
 
 // What is read of a sound card: C and N; files shown; a line a file; clear bits of the shown bitmap.
-fn print_card<W: Write>(out: &mut W, card: &[u8], r: Report) -> io::Result<()>
-    requires { (shape_ok card.now ≡ true) × (sound card.now ≡ true) }
-    ensures { OnOk result (Appends (W.contents out.old) (W.contents out.new) (card_lines card.now r)) }
+fn print_card<W: Write>(out: &mut W, card: &[u8], r: Contents) -> io::Result<()>
+    requires { reported_of (Ok r) ≡ read card.now }
+    ensures { OnOk result (Appends (W.contents out.old) (W.contents out.new) (card_lines card.now (read card.now))) }
 {
     writeln!(out, "counts {} of {}", r.c.0, r.n)?;
     writeln!(out, "files {}", r.files)?;
@@ -81,9 +82,8 @@ fn print_card<W: Write>(out: &mut W, card: &[u8], r: Report) -> io::Result<()>
 pub fn report<W: Write>(out: &mut W, card: &[u8]) -> io::Result<()>
     ensures { OnOk result (Appends (W.contents out.old) (W.contents out.new) (report_lines card.now)) }
 {
-    let r = card_read::read(card);
-    if r.number != 0 {
-        return refused(out, r.number);
+    match card_read::read(card) {
+        Err(refusal) => refused(out, u32::from(refusal)),
+        Ok(contents) => print_card(out, card, contents),
     }
-    print_card(out, card, r)
 }

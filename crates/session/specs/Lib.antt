@@ -1,3 +1,4 @@
+pub mod Session
 pub mod Views
 pub mod Fits
 pub mod FitMeans

@@ -1,5 +1,5 @@
 -- "A session": its stamp (c, t), and its two views. Assumes nothing.
-use Rattle.std.specs.Prelude.{cond, List, [], ℕ, ◌-◌}
+use Rattle.std.specs.Prelude.{cond, List, [], ℕ, ◌-◌, Some, None}
 use Rattle.sectors.specs.Sectors.{Cells, sec}
 use Rattle.counts.specs.declared.Stamp.{Stamp}
 use Rattle.counts.specs.declared.View.{View}
@@ -10,8 +10,7 @@ use Rattle.apages.specs.Index.{page_in}
 use Rattle.card.specs.declared.Line.{Line}
 use Rattle.card.specs.Files.{files_of}
 use Rattle.session.specs.declared.Opened.{Opened}
-use Rattle.session.specs.declared.Session.{Session}
-use Rattle.session.specs.declared.Session.TheVariants.{Closed, Open}
+use Rattle.session.specs.Session.{Session}
 
 -- "stamp (c, t)"
 unfoldable pub own_stamp : Opened → Stamp
@@ -44,5 +43,5 @@ unfoldable pub present_files : Opened → Cells → List Line
 present_files s k = files_of (present_table s k) (entries_of s.geo k)
 
 unfoldable pub session_files : Session → List ℕ → List Line
-session_files Closed work = []
-session_files (Open s) work = present_files s (sec work)
+session_files None work = []
+session_files (Some s) work = present_files s (sec work)

@@ -16,32 +16,26 @@ pub struct Opened {
     pub worn: bool,
 }
 
-// All closed sessions are one value.
-#[derive(Clone, Copy)]
-pub enum Session {
-    Closed,
-    Open(Opened),
-}
+// A session: open, or `None`, closed: "all closed sessions are one value".
+pub type Session = Option<Opened>;
 
 // The stamp (c, t) under which the session changes things.
+#[tactic(auto, unfolding(crate::specs::Views::own_stamp))]
 pub fn own_stamp(s: Opened) -> Stamp
     ensures { result ≡ own_stamp s }
 {
-    let c = s.c;
-    let t = s.t;
-    Stamp { cc: c, txc: t }
+    Stamp { cc: s.c, txc: s.t }
 }
 
 // The view that takes word c as t; in a worn session the table as it is.
+#[tactic(auto, unfolding(crate::specs::Views::present_view))]
 pub fn present_view(s: Opened) -> View
     requires { InLimits s.geo }
     ensures { result ≡ present_view s }
 {
     if s.worn {
-        let g = s.geo;
-        return counts::as_is(g);
+        counts::as_is(s.geo)
+    } else {
+        View { c: s.c, t: s.t }
     }
-    let c = s.c;
-    let t = s.t;
-    View { c, t }
 }

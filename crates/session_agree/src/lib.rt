@@ -12,18 +12,15 @@ use counts::{Stamp, TxCount};
 use session::Opened;
 
 // Whether the geometry is inside the limits, c and t are in range, and the working image has its length.
+#[tactic(auto, unfolding(session::specs::Fits::sizes_ok))]
 pub fn sizes_ok(s: Opened, work: &[u8]) -> bool
     ensures { result ≡ sizes_ok s work.now }
 {
-    let g = s.geo;
-    let inside = counts::geo_ok(g);
-    if !inside {
-        return false;
-    }
-    let n = counts::crash_counts(g);
-    let top = counts::top();
-    let bytes = 512 * (g.s as usize);
-    (s.c.0 < n) & (1 <= s.t.0) & (s.t.0 <= top.0) & (work.len() == bytes)
+    counts::geo_ok(s.geo)
+        && s.c.0 < counts::crash_counts(s.geo)
+        && TxCount(1) <= s.t
+        && s.t <= counts::top()
+        && work.len() == 512 * (s.geo.s as usize)
 }
 
 // Whether sector 0 has count c + 1, the session's geometry, and zeros behind them.
@@ -31,32 +28,34 @@ pub fn head_ok(s: Opened, work: &[u8]) -> bool
     requires { 512 ≤ length work.now }
     ensures { result ≡ head_ok s (sec work.now) }
 {
-    let count = words::word_at(work, 0) as u64;
-    let h = counts::geo_of(work);
-    let g = s.geo;
-    let rest = words::zeros(&work[16..512]);
-    (count == s.c.0 as u64 + 1) & (h.s == g.s) & (h.t == g.t) & (h.d == g.d) & rest
+    u64::from(words::word_at(work, 0)) == u64::from(s.c.0) + 1
+        && counts::geo_of(work) == s.geo
+        && words::zeros(&work[16..512])
 }
 
 // Whether table word c is t - 1; in a worn session t and the word are at the top.
+#[tactic(auto, unfolding(session::specs::Fits::word_ok))]
 pub fn word_ok(worn: bool, t: TxCount, x: u32) -> bool
     ensures { result ≡ word_ok worn t.0 x }
 {
     if worn {
         let top = counts::top();
-        return (t.0 == top.0) & (x == top.0);
+        t == top && x == top.0
+    } else {
+        u64::from(x) + 1 == u64::from(t.0)
     }
-    x as u64 + 1 == t.0 as u64
 }
 
 // Whether a stamp, if it is at c, has txc at most t.
+#[tactic(auto, unfolding(session::specs::Fits::stamp_at_most))]
 fn stamp_at_most(s: Opened, x: Stamp) -> bool
     ensures { result ≡ stamp_at_most s x }
 {
-    !(x.cc.0 == s.c.0) | (x.txc.0 <= s.t.0)
+    x.cc != s.c || x.txc <= s.t
 }
 
 // The same of the stamp that an entry or a group of the index begins with.
+#[tactic(auto, unfolding(session::specs::Fits::entry_at_most))]
 fn entry_at_most(s: Opened, p: &[u8]) -> bool
     requires { 8 ≤ length p.now }
     ensures { result ≡ entry_at_most s p.now }
@@ -69,18 +68,7 @@ pub fn entries_at_most(s: Opened, work: &[u8]) -> bool
     requires { LaidOut s.geo work.now }
     ensures { result ≡ every (entry_at_most s) (entries_of s.geo (sec work.now)) }
 {
-    let g = s.geo;
-    let n = 4 * (g.d as usize);
-    let mut j = 0;
-    while j < n {
-        let at = directory::place_of(g, j);
-        let end = at + 128;
-        if !entry_at_most(s, &work[at..end]) {
-            return false;
-        }
-        j += 1;
-    }
-    true
+    directory::entries(work, s.geo).all(|p| entry_at_most(s, p))
 }
 
 // The same of every group of the index.
@@ -88,16 +76,10 @@ pub fn index_at_most(s: Opened, ix: &[u8]) -> bool
     requires { InLimits s.geo × (length ix.now ≡ 512) }
     ensures { result ≡ index_at_most s ix.now }
 {
-    let g = s.geo;
-    let pairs = counts::pairs(g);
-    let mut p = 0;
-    while p < pairs {
-        let at = 16 * (p as usize);
-        let end = at + 16;
-        if !entry_at_most(s, &ix[at..end]) {
+    for p in 0..counts::pairs(s.geo) as usize {
+        if !entry_at_most(s, &ix[16 * p..16 * p + 16]) {
             return false;
         }
-        p += 1;
     }
     true
 }

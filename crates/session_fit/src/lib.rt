@@ -7,24 +7,22 @@ ghost use Rattle.counts.specs.Inner.{LaidOut};
 ghost use Rattle.session.specs.Fits.{table_fits, views_fit, stamps_fit, fits};
 
 use counts::CrashCount;
+use sectors::Sector;
 use session::Opened;
 
 // Whether the counts and the table of the working image are the session's.
+#[tactic(auto, unfolding(session::specs::Fits::table_fits))]
 fn table_fits(s: Opened, work: &[u8]) -> bool
     requires { LaidOut s.geo work.now }
     ensures { result ≡ table_fits s (sec work.now) }
 {
-    let g = s.geo;
-    let c = s.c;
-    let t = s.t;
-    let head = session_agree::head_ok(s, work);
-    if !head {
+    if !session_agree::head_ok(s, work) {
         return false;
     }
-    let word = session_agree::word_ok(s.worn, t, counts::table_word(work, g, c));
-    let past = counts_table::zero_past(work, g, c);
-    let max = counts_table::table_max(work, g, c, past);
-    word & max & past
+    let past = counts_table::zero_past(work, s.geo, s.c);
+    session_agree::word_ok(s.worn, s.t, counts::table_word(work, s.geo, s.c))
+        && counts_table::table_max(work, s.geo, s.c, past)
+        && past
 }
 
 // Whether both views pass, and no name is present in either view of two entries.
@@ -32,15 +30,13 @@ fn views_fit(s: Opened, work: &[u8]) -> bool
     requires { LaidOut s.geo work.now }
     ensures { result ≡ views_fit s (sec work.now) }
 {
-    let g = s.geo;
-    let p = session::present_view(s);
-    let k = counts::as_is(g);
-    let n = CrashCount(counts::crash_counts(g));
-    let mut scratch = [0u8; 128];
-    let present = card_sound::view_ok(work, g, p, s.c, &mut scratch);
-    let cut = card_sound::view_ok(work, g, k, n, &mut scratch);
-    let names = directory_rules::names_ok(work, g, p, k, &mut scratch);
-    present & cut & names
+    let present = session::present_view(s);
+    let cut = counts::as_is(s.geo);
+    let n = CrashCount(counts::crash_counts(s.geo));
+    let mut scratch = [0; 128];
+    card_sound::view_ok(work, s.geo, present, s.c, &mut scratch)
+        && card_sound::view_ok(work, s.geo, cut, n, &mut scratch)
+        && directory_rules::names_ok(work, s.geo, present, cut, &mut scratch)
 }
 
 // Whether every stamp at c has txc at most t.
@@ -48,28 +44,17 @@ fn stamps_fit(s: Opened, work: &[u8]) -> bool
     requires { LaidOut s.geo work.now }
     ensures { result ≡ stamps_fit s (sec work.now) }
 {
-    let g = s.geo;
-    let from = 512 * (g.t as usize + 1);
-    let to = from + 512;
-    let entries = session_agree::entries_at_most(s, work);
-    entries & session_agree::index_at_most(s, &work[from..to])
+    let index = sectors::sector_at(work, Sector(s.geo.t + 1));
+    session_agree::entries_at_most(s, work) && session_agree::index_at_most(s, index)
 }
 
 // Whether a session fits a working image.
+#[tactic(auto, unfolding(session::specs::Fits::fits, session::specs::Fits::fits_in))]
 pub fn fits(s: Opened, work: &[u8]) -> bool
     ensures { result ≡ fits s work.now }
 {
-    let sizes = session_agree::sizes_ok(s, work);
-    if !sizes {
-        return false;
-    }
-    let table = table_fits(s, work);
-    if !table {
-        return false;
-    }
-    let views = views_fit(s, work);
-    if !views {
-        return false;
-    }
-    stamps_fit(s, work)
+    session_agree::sizes_ok(s, work)
+        && table_fits(s, work)
+        && views_fit(s, work)
+        && stamps_fit(s, work)
 }

@@ -3,10 +3,13 @@
 #![tactic(auto)]
 
 ghost use Rattle.std.specs.Prelude.{◌≡◌, ◌*◌, eqb, length};
+ghost use Rattle.card.specs.Answers.{number_in};
 ghost use Rattle.store.specs.Mount.{plan_number};
 ghost use Rattle.store.specs.Inner.{fitting_plan, unfit, unfit_on};
 
+use card::Refusal;
 use session::{Opened, Session};
+use session_fit::fits;
 
 // Whether the card has the session's length, 512·S bytes.
 pub fn sized(s: Opened, card: &[u8]) -> bool
@@ -15,42 +18,32 @@ pub fn sized(s: Opened, card: &[u8]) -> bool
     card.len() == 512 * (s.geo.s as usize)
 }
 
-// The number of the first test of sync that fails in an open session that fits, else 0: 1, 9
-pub fn sync_number(s: Opened, card: &[u8]) -> u32
-    ensures { result ≡ plan_number (fitting_plan s card.now) }
+// The tests of sync in an open session that fits: 1, 9
+#[tactic(auto, unfolding(store::specs::Inner::fitting_plan, store::specs::Mount::plan_number, card::specs::Plan::guard, card::specs::Plan::ended))]
+pub fn sync_tests(s: Opened, card: &[u8]) -> Result<(), Refusal>
+    ensures { number_in result ≡ plan_number (fitting_plan s card.now) }
 {
-    let right = sized(s, card);
-    if !right {
-        return 1;
+    if !sized(s, card) {
+        return Err(Refusal::Shape);
     }
     if s.worn {
-        return 9;
+        return Err(Refusal::Worn);
     }
-    0
+    Ok(())
 }
 
 // Whether the session is open and does not fit; a closed one is not judged.
+#[tactic(auto, unfolding(store::specs::Inner::unfit))]
 pub fn unfit(session: Session, work: &[u8]) -> bool
     ensures { result ≡ unfit session work.now }
 {
-    let Session::Open(s) = session else {
-        return false;
-    };
-    let fit = session_fit::fits(s, work);
-    !fit
+    session.is_some_and(|s| !fits(s, work))
 }
 
 // The same for land, sync and unmount, which answer 1 before 2: a card that is not of 512·S bytes is not judged either.
+#[tactic(auto, unfolding(store::specs::Inner::unfit_on))]
 pub fn unfit_on(session: Session, card: &[u8], work: &[u8]) -> bool
     ensures { result ≡ unfit_on session card.now work.now }
 {
-    let Session::Open(s) = session else {
-        return false;
-    };
-    let right = sized(s, card);
-    if !right {
-        return false;
-    }
-    let fit = session_fit::fits(s, work);
-    !fit
+    session.is_some_and(|s| sized(s, card) && !fits(s, work))
 }

@@ -12,5 +12,5 @@ pub mod RoomLaws
 pub mod CallLaws
 pub mod LookLaws
 pub mod CardLaws
-pub mod SyncCalls
 pub mod Fitting
+pub mod GivenLaws

@@ -1,4 +1,5 @@
 -- The calls' plans: what one that goes through says of each test, that a refusal's number is not 0, and what a plan's number says of it. Assumes nothing.
+use Rattle.std.specs.Prelude.{Some}
 use mathlib.Core.Path.{◌≡◌, refl, sym, ap}
 use mathlib.Core.Bool.{Bool, true, false, not}
 use mathlib.Core.List.{List}
@@ -8,7 +9,6 @@ use native.Mathlib.Omega.{arith}
 use borrow.Author.Tests.{not-true, eqb-true, ltb-true, lt-ltb}
 use lib.ListN.{length}
 use lib.Dec.{ltb}
-use Rattle.words.specs.declared.Found.TheVariants.{At}
 use Rattle.words.specs.Lists.{first_at}
 use Rattle.words.proofs.BoolLaws.{both}
 use Rattle.sectors.specs.declared.Sector.{Sector}
@@ -49,8 +49,8 @@ pub record PutOk (s : Opened) (work n d : List ℕ) (goal j : ℕ) (a : Sector) 
   pub live : s.worn ≡ false
   pub name : good_name n ≡ true
   pub below : goal < s.geo.s
-  pub entry : place_in s work n ≡ At j
-  pub run : run_in s work (sectors_for (length d)) goal ≡ At a.0
+  pub entry : place_in s work n ≡ Some j
+  pub run : run_in s work (sectors_for (length d)) goal ≡ Some a.0
 
 pub put_inv : (s : Opened) (work n d : List ℕ) (goal j : ℕ) (a : Sector) → put_plan s work n d goal ≡ do_it j a → PutOk s work n d goal j a
 unfolding put_plan
@@ -88,7 +88,7 @@ pub record RemoveOk (s : Opened) (work n : List ℕ) (j : ℕ) : Type 0 where
   pub fit : fits s work ≡ true
   pub live : s.worn ≡ false
   pub name : good_name n ≡ true
-  pub entry : first_at (named (present_table s (sec work)) (present_table s (sec work)) n) 0 (entries_of s.geo (sec work)) ≡ At j
+  pub entry : first_at (named (present_table s (sec work)) (present_table s (sec work)) n) 0 (entries_of s.geo (sec work)) ≡ Some j
 
 pub remove-inv : (s : Opened) (work n : List ℕ) (j : ℕ) (a : Sector) → remove_plan s work n ≡ do_it j a → RemoveOk s work n j
 unfolding remove_plan

@@ -1,11 +1,11 @@
 -- What put's searches found lies where a change may go: the entry in the directory, the run inside the data. Assumes nothing.
+use Rattle.std.specs.Prelude.{Option, Some}
 use mathlib.Core.Path.{◌≡◌, refl, sym, ◌∙◌}
 use mathlib.Core.Bool.{true}
 use mathlib.Core.List.{List, []}
 use Prim.Native.Nat.{ℕ, zero, suc, ◌+◌, ◌-◌, ◌*◌, ◌%◌, ◌≤◌, ◌<◌}
 use native.Mathlib.Omega.{arith}
 use lib.ListN.{length}
-use Rattle.words.specs.declared.Found.TheVariants.{At}
 use Rattle.words.specs.Lists.{first_at}
 use Rattle.words.proofs.FirstLaws.{at_one, found_at}
 use Rattle.sectors.specs.declared.Sector.{Sector}
@@ -74,7 +74,7 @@ module _ (s : Opened) (work : List ℕ) (F : Fit s work) where
   alike = present-wide ∙ sym cut-wide
 
   -- the run that was found lies inside the data, free in both views
-  pub room_in : (k goal a : ℕ) → 0 < k → run_in s work k goal ≡ At a
+  pub room_in : (k goal a : ℕ) → 0 < k → run_in s work k goal ≡ Some a
       → (g_f s.geo ≤ a) × (a + k ≤ s.geo.s) × (a % 4096 + k ≤ 4096) × ((n : ℕ) → a ≤ n → n < a + k → (bit_at p n ≡ 0) × (bit_at q n ≡ 0))
   unfolding run_in
   room_in k goal a h e =
@@ -86,12 +86,12 @@ module _ (s : Opened) (work : List ℕ) (F : Fit s work) where
       in-the-data : (n : ℕ) → n < 4096 * g_p s.geo → bit_at p n ≡ 0 → InData s.geo n
       in-the-data n l z = (clear-bit s.geo s.c.0 (present_table s (sec work)) (sec work) F.shape pres (unfold present_page in present-wide) n l (unfold present_page in z)).0
 
-  run-room-in : (k goal a : ℕ) → run_in s work k goal ≡ At a → a + k ≤ s.geo.s
+  run-room-in : (k goal a : ℕ) → run_in s work k goal ≡ Some a → a + k ≤ s.geo.s
   unfolding run_in run_for
   run-room-in zero goal a e = omega (arith, at_one e)
   run-room-in (suc k) goal a e = (room_in (suc k) goal a (omega arith) e).1
 
-  run-page-in : (k goal a : ℕ) → run_in s work k goal ≡ At a → a % 4096 + k ≤ 4096
+  run-page-in : (k goal a : ℕ) → run_in s work k goal ≡ Some a → a % 4096 + k ≤ 4096
   unfolding run_in
   run-page-in k goal a e = run-page k goal a p q alike e
 
@@ -112,14 +112,14 @@ module _ (s : Opened) (work : List ℕ) (F : Fit s work) where
       version-page s.geo _ (λ r e. shown-run s.geo (present_table s (sec work)) _ P.wf e)
 
   -- the entry that put uses is one of the directory
-  place-below : (n : List ℕ) (j : ℕ) → place_in s work n ≡ At j → j < 4 * s.geo.d
+  place-below : (n : List ℕ) (j : ℕ) → place_in s work n ≡ Some j → j < 4 * s.geo.d
   unfolding place_in
   place-below n j h =
       omega
       (arith, entries-length s.geo work, (place-named (present_table s (sec work)) (cut_table s (sec work)) n (entries_of s.geo (sec work)) j h).below)
 
   -- what put's tests showed is what its change asks
-  put-able : (j goal : ℕ) (a : Sector) (n d : List ℕ) → fits s work ≡ true → good_name n ≡ true → place_in s work n ≡ At j → run_in s work (sectors_for (length d)) goal ≡ At a.0
+  put-able : (j goal : ℕ) (a : Sector) (n d : List ℕ) → fits s work ≡ true → good_name n ≡ true → place_in s work n ≡ Some j → run_in s work (sectors_for (length d)) goal ≡ Some a.0
       → CanEdit s work j (put_run a d) n d
   unfolding put_run g_f
   put-able j goal a n d f g p r =
@@ -157,12 +157,16 @@ module _ (s : Opened) (work : List ℕ) (F : Fit s work) where
         earlier_page = earlier-page j below;
       }
 
-pub can-put : (s : Opened) (work n d : List ℕ) (goal j : ℕ) (a : Sector) → fits s work ≡ true → good_name n ≡ true → place_in s work n ≡ At j
-    → run_in s work (sectors_for (length d)) goal ≡ At a.0 → CanEdit s work j (put_run a d) n d
+pub can-put : (s : Opened) (work n d : List ℕ) (goal j : ℕ) (a : Sector) → fits s work ≡ true → good_name n ≡ true → place_in s work n ≡ Some j
+    → run_in s work (sectors_for (length d)) goal ≡ Some a.0 → CanEdit s work j (put_run a d) n d
 can-put s work n d goal j a f g p r = put-able s work (fit-inv s work f) j goal a n d f g p r
 
 pub can-remove : (s : Opened) (work n : List ℕ) (j : ℕ) → fits s work ≡ true → good_name n ≡ true
-    → first_at (named (present_table s (sec work)) (present_table s (sec work)) n) 0 (entries_of s.geo (sec work)) ≡ At j → CanEdit s work j (run_of Absent) n []
+    → first_at (named (present_table s (sec work)) (present_table s (sec work)) n) 0 (entries_of s.geo (sec work)) ≡ Some j → CanEdit s work j (run_of Absent) n []
 can-remove s work n j f g h =
     let b = (found_at (named (present_table s (sec work)) (present_table s (sec work)) n) [] (entries_of s.geo (sec work)) j h).0 in
     remove-able s work (fit-inv s work f) j n f g (omega (arith, entries-length s.geo work))
+
+-- the run that code looked for, for as many sectors as the content takes
+pub run-so : (s : Opened) (work : List ℕ) (goal : ℕ) {k m : ℕ} {r o : Option ℕ} → k ≡ m → r ≡ run_in s work k goal → r ≡ o → run_in s work m goal ≡ o
+run-so s work goal e er eo = rw (sym e) (sym er ∙ eo)

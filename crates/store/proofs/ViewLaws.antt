@@ -1,10 +1,10 @@
 -- A session's two views as code takes them, and what put's searches find in them. Assumes nothing.
+use Rattle.std.specs.Prelude.{Option}
 use mathlib.Core.Path.{◌≡◌, ap, ◌∙◌}
 use mathlib.Core.Bool.{true}
 use mathlib.Core.List.{List, []}
 use Prim.Native.Nat.{ℕ, ◌*◌, ◌<◌}
 use lib.ListN.{take, drop, get_or}
-use Rattle.words.specs.declared.Found.{Found}
 use Rattle.words.specs.Lists.{first_at, or_else}
 use Rattle.sectors.specs.Sectors.{sec}
 use Rattle.counts.specs.declared.Stamp.{Stamp}
@@ -52,14 +52,14 @@ module _ (s : Opened) (work : List ℕ) {v w : View} (ev : v ≡ present_view s)
   unfolding cut_table
   cut-is = rw ew (as_is_lem s.geo work laid)
 
-  pub place_here : (n : List ℕ) {r : Found}
+  pub place_here : (n : List ℕ) {r : Option ℕ}
       → r ≡ first_at (named (table_in s.geo v (sec work)) (table_in s.geo w (sec work)) n) 0 (entries_of s.geo (sec work))
       → or_else r (first_at (gone (table_in s.geo v (sec work)) (table_in s.geo w (sec work))) 0 (entries_of s.geo (sec work))) ≡ place_in s work n
   unfolding place_in put_place
   place_here n e = rw (e, present-is, cut-is)
 
   -- the two maps that are searched
-  pub run-here : (k goal : ℕ) {r : Found} → r ≡ run_for k goal (page_in s.geo (table_in s.geo v (sec work)) (sec work)) (page_in s.geo (table_in s.geo w (sec work)) (sec work)) → r ≡ run_in s work k goal
+  pub run-here : (k goal : ℕ) {r : Option ℕ} → r ≡ run_for k goal (page_in s.geo (table_in s.geo v (sec work)) (sec work)) (page_in s.geo (table_in s.geo w (sec work)) (sec work)) → r ≡ run_in s work k goal
   unfolding run_in present_page cut_page
   run-here k goal er = er ∙ rw (present-is, cut-is)
 

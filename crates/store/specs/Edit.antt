@@ -1,6 +1,5 @@
 -- put with a goal: 4, 2, 9, 5, 11, 7, 8; put without one: "4, 2, 9, 5, 7, 8"; remove: "4, 2, 9, 5, 6". Assumes nothing.
-use Rattle.std.specs.Prelude.{not, List, [], ℕ, ◌*◌, length, get_or, ltb}
-use Rattle.words.specs.declared.Found.{Found}
+use Rattle.std.specs.Prelude.{not, List, [], ℕ, ◌*◌, length, get_or, ltb, Option, Some, None}
 use Rattle.words.specs.Lists.{first_at, splice, pad, or_else}
 use Rattle.sectors.specs.declared.Sector.{Sector}
 use Rattle.sectors.specs.Sectors.{sec}
@@ -14,20 +13,19 @@ use Rattle.apages.specs.Index.{change_bits}
 use Rattle.card.specs.Plan.{Plan, guard, need, ended, do_it, do_at, refused, done, Changed}
 use Rattle.card.specs.Files.{run_of, run_at}
 use Rattle.session.specs.declared.Opened.{Opened}
-use Rattle.session.specs.declared.Session.{Session}
-use Rattle.session.specs.declared.Session.TheVariants.{Closed, Open}
+use Rattle.session.specs.Session.{Session}
 use Rattle.session.specs.Views.{own_stamp, present_table, cut_table, present_page, cut_page}
 use Rattle.session.specs.Fits.{fits}
 
 -- "A name present in either view of an entry uses that entry; otherwise the lowest entry absent in both views."
-unfoldable pub put_place : List ℕ → List ℕ → List ℕ → List (List ℕ) → Found
+unfoldable pub put_place : List ℕ → List ℕ → List ℕ → List (List ℕ) → Option ℕ
 put_place tp tc n ps = or_else (first_at (named tp tc n) 0 ps) (first_at (gone tp tc) 0 ps)
 
 -- the entry that put uses, and the run its content goes to
-unfoldable pub place_in : Opened → List ℕ → List ℕ → Found
+unfoldable pub place_in : Opened → List ℕ → List ℕ → Option ℕ
 place_in s work n = put_place (present_table s (sec work)) (cut_table s (sec work)) n (entries_of s.geo (sec work))
 
-unfoldable pub run_in : Opened → List ℕ → ℕ → ℕ → Found
+unfoldable pub run_in : Opened → List ℕ → ℕ → ℕ → Option ℕ
 run_in s work k goal = run_for k goal (present_page s (sec work)) (cut_page s (sec work))
 
 -- put with a goal: "4, 2, 9, 5", "11 for a goal of S or more, after 5 and before 7", "7, 8"
@@ -57,8 +55,8 @@ put_work s j a work n d = edit_work s j (Present (put_run a d)) work n d
 
 -- "Put takes a goal sector"
 unfoldable pub put_at : Session → List ℕ → List ℕ → List ℕ → ℕ → Changed
-put_at Closed work n d goal = record { answer = refused 4; image = work }
-put_at (Open s) work n d goal =
+put_at None work n d goal = record { answer = refused 4; image = work }
+put_at (Some s) work n d goal =
     ended (put_plan s work n d goal) (λ k. record { answer = refused k; image = work }) (λ j a. record { answer = done 0; image = put_work s j a work n d })
 
 -- "Goal 0 is today's rule, and calls without a goal keep it"
@@ -76,6 +74,6 @@ unfoldable pub remove_work : Opened → ℕ → List ℕ → List ℕ → List �
 remove_work s j work n = edit_work s j Absent work n []
 
 unfoldable pub remove : Session → List ℕ → List ℕ → Changed
-remove Closed work n = record { answer = refused 4; image = work }
-remove (Open s) work n =
+remove None work n = record { answer = refused 4; image = work }
+remove (Some s) work n =
     ended (remove_plan s work n) (λ k. record { answer = refused k; image = work }) (λ j a. record { answer = done 0; image = remove_work s j work n })

@@ -1,5 +1,5 @@
 -- What the contracts of inner functions cite besides the words of the papers: what such a function asks of its caller, and what it answers. Assumes nothing.
-use Rattle.std.specs.Prelude.{◌≡◌, List, [], true, false, Bool, not, ◌&&◌, ℕ, ◌+◌, ◌*◌, ◌%◌, ◌≤◌, ◌<◌, length, get_or, eqb}
+use Rattle.std.specs.Prelude.{◌≡◌, List, [], true, false, Bool, not, ◌&&◌, ℕ, ◌+◌, ◌*◌, ◌%◌, ◌≤◌, ◌<◌, length, get_or, eqb, Some, None}
 use Rattle.sectors.specs.Sectors.{sec, lean_writes}
 use Rattle.counts.specs.Geometry.{g_n, g_p, g_f, geo_of, count_of, table_of}
 use Rattle.counts.specs.Inner.{LaidOut}
@@ -11,8 +11,7 @@ use Rattle.card.specs.Files.{run_at}
 use Rattle.session.specs.declared.Opened.{Opened}
 use Rattle.session.specs.Views.{present_table}
 use Rattle.session.specs.Fits.{fits}
-use Rattle.session.specs.declared.Session.{Session}
-use Rattle.session.specs.declared.Session.TheVariants.{Closed, Open}
+use Rattle.session.specs.Session.{Session}
 use Rattle.store.specs.Steps.{past_table, all_steps}
 
 -- what a change of entry j asks: content d for run r, name n
@@ -51,13 +50,13 @@ counts_at false s work k card = lean_writes (past_table s + 1) k (all_steps s wo
 
 -- "no call meets a session that does not fit": an open session fits; a closed one is not judged
 abbrev pub FitOf : Session → List ℕ → Type 0
-FitOf Closed work = Unit
-FitOf (Open s) work = fits s work ≡ true
+FitOf None work = Unit
+FitOf (Some s) work = fits s work ≡ true
 
 -- the same of a call that answers 1 before 2: an open session fits where the card has its length
 abbrev pub FitOn : Session → List ℕ → List ℕ → Type 0
-FitOn Closed card work = Unit
-FitOn (Open s) card work = length card ≡ 512 * s.geo.s → fits s work ≡ true
+FitOn None card work = Unit
+FitOn (Some s) card work = length card ≡ 512 * s.geo.s → fits s work ≡ true
 
 -- what is left of sync's tests in an open session that fits: "1, 9"
 unfoldable pub fitting_plan : Opened → List ℕ → Plan
@@ -65,10 +64,10 @@ fitting_plan s card = guard 1 (eqb (length card) (512 * s.geo.s)) (guard 9 (not 
 
 -- the test that the public calls make: "2: .. the session does not fit"
 unfoldable pub unfit : Session → List ℕ → Bool
-unfit Closed work = false
-unfit (Open s) work = not (fits s work)
+unfit None work = false
+unfit (Some s) work = not (fits s work)
 
 -- land, sync and unmount: "4, 1, 2"
 unfoldable pub unfit_on : Session → List ℕ → List ℕ → Bool
-unfit_on Closed card work = false
-unfit_on (Open s) card work = eqb (length card) (512 * s.geo.s) && not (fits s work)
+unfit_on None card work = false
+unfit_on (Some s) card work = eqb (length card) (512 * s.geo.s) && not (fits s work)

@@ -1,3 +1,4 @@
+pub mod Given
 pub mod Steps
 pub mod Mount
 pub mod Edit

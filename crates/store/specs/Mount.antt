@@ -1,14 +1,13 @@
 -- mount: "1, 2, 3". Assumes nothing.
-use Rattle.std.specs.Prelude.{◌≡◌, false, ◌&&◌, List, ℕ, ◌+◌, length, get_or, ltb, eqb}
+use Rattle.std.specs.Prelude.{◌≡◌, false, ◌&&◌, List, ℕ, ◌+◌, length, get_or, ltb, eqb, Some, None}
 use Rattle.sectors.specs.Sectors.{sec, apply_steps}
 use Rattle.counts.specs.Geometry.{g_n, geo_of, count_of, table_of}
 use Rattle.card.specs.declared.Answer.{Answer}
 use Rattle.card.specs.Plan.{Plan, guard, ended, go_ahead, refused, done}
 use Rattle.card.specs.Sound.{shape_ok, sound}
 use Rattle.session.specs.declared.Opened.{Opened}
-use Rattle.session.specs.declared.Session.{Session}
-use Rattle.session.specs.declared.Session.TheVariants.{Closed, Open}
-use Rattle.store.specs.declared.Outcome.{Outcome}
+use Rattle.session.specs.Session.{Session}
+use Rattle.store.specs.Given.{Outcome}
 use Rattle.store.specs.Steps.{mount_steps}
 
 -- what mount, sync and unmount leave: their answer, the session and both images
@@ -49,9 +48,9 @@ opened_from card =
 unfoldable pub mount_done : List ℕ → Ended
 mount_done card =
     let k = apply_steps (mount_steps card) card in
-    record { answer = done 0; session = Open (opened_from card); card = k; work = k }
+    record { answer = done 0; session = Some (opened_from card); card = k; work = k }
 
 -- "a refused mount returns a closed session"
 unfoldable pub mount : List ℕ → List ℕ → Ended
 mount card work =
-    ended (mount_plan card work) (λ k. record { answer = refused k; session = Closed; card = card; work = work }) (λ j a. mount_done card)
+    ended (mount_plan card work) (λ k. record { answer = refused k; session = None; card = card; work = work }) (λ j a. mount_done card)

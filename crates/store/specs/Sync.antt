@@ -1,10 +1,9 @@
 -- land: "4, 1, 2, 11"; sync: "4, 1, 2, 9"; unmount: "4, 1, 2". Assumes nothing.
-use Rattle.std.specs.Prelude.{Bool, true, false, not, List, [], ℕ, ◌+◌, ◌*◌, length, ltb, eqb}
+use Rattle.std.specs.Prelude.{Bool, true, false, not, List, [], ℕ, ◌+◌, ◌*◌, length, ltb, eqb, Some, None}
 use Rattle.sectors.specs.Sectors.{sec, set_sec, apply_steps, writes_in}
 use Rattle.card.specs.Plan.{Plan, guard, ended, go_ahead, refused, done, Changed}
 use Rattle.session.specs.declared.Opened.{Opened}
-use Rattle.session.specs.declared.Session.{Session}
-use Rattle.session.specs.declared.Session.TheVariants.{Closed, Open}
+use Rattle.session.specs.Session.{Session}
 use Rattle.session.specs.Fits.{fits}
 use Rattle.store.specs.Steps.{sync_steps, unmount_steps, unmount_count, sync_work, unmount_work, at_top}
 use Rattle.store.specs.Mount.{Ended}
@@ -15,8 +14,8 @@ both_plan s card work p = guard 1 (eqb (length card) (512 * s.geo.s)) (guard 2 (
 
 -- "land 4, 1, 2, 11"; "Land copies one sector to the card"
 unfoldable pub land : Session → List ℕ → List ℕ → ℕ → Changed
-land Closed card work i = record { answer = refused 4; image = card }
-land (Open s) card work i =
+land None card work i = record { answer = refused 4; image = card }
+land (Some s) card work i =
     ended (both_plan s card work (guard 11 (ltb i s.geo.s) go_ahead)) (λ k. record { answer = refused k; image = card })
     (λ j a. record { answer = done 0; image = set_sec card i (sec work i) })
 
@@ -30,27 +29,27 @@ unfoldable pub sync_done : Opened → List ℕ → List ℕ → Ended
 sync_done s card work =
     record {
       answer = done (writes_in (sync_steps s card work []));
-      session = Open (grown (at_top s) s);
+      session = Some (grown (at_top s) s);
       card = apply_steps (sync_steps s card work []) card;
       work = sync_work s work;
     }
 
 -- "sync 4, 1, 2, 9"
 unfoldable pub sync : Session → List ℕ → List ℕ → Ended
-sync Closed card work = record { answer = refused 4; session = Closed; card = card; work = work }
-sync (Open s) card work =
+sync None card work = record { answer = refused 4; session = None; card = card; work = work }
+sync (Some s) card work =
     ended (both_plan s card work (guard 9 (not s.worn) go_ahead))
-    (λ k. record { answer = refused k; session = Open s; card = card; work = work })
+    (λ k. record { answer = refused k; session = Some s; card = card; work = work })
     (λ j a. sync_done s card work)
 
 -- "The session is closed"
 unfoldable pub unmount_done : Opened → List ℕ → List ℕ → Ended
 unmount_done s card work =
-    record { answer = done (unmount_count s card work); session = Closed; card = apply_steps (unmount_steps s card work) card; work = unmount_work s work }
+    record { answer = done (unmount_count s card work); session = None; card = apply_steps (unmount_steps s card work) card; work = unmount_work s work }
 
 -- "unmount 4, 1, 2"
 unfoldable pub unmount : Session → List ℕ → List ℕ → Ended
-unmount Closed card work = record { answer = refused 4; session = Closed; card = card; work = work }
-unmount (Open s) card work =
-    ended (both_plan s card work go_ahead) (λ k. record { answer = refused k; session = Open s; card = card; work = work })
+unmount None card work = record { answer = refused 4; session = None; card = card; work = work }
+unmount (Some s) card work =
+    ended (both_plan s card work go_ahead) (λ k. record { answer = refused k; session = Some s; card = card; work = work })
     (λ j a. unmount_done s card work)

@@ -1,20 +1,18 @@
 // The calls of a session: mount, put, remove, get, list, free, land, sync and unmount.
 #![tactic(auto)]
 
-use card::Answer;
-use session::Session;
+use session::Opened;
 
-// What mount, sync and unmount give back: the answer and the session.
+// What sync gives back: the session after it, and how many sectors it wrote.
 #[derive(Clone, Copy)]
-pub struct Outcome {
-    pub answer: Answer,
-    pub session: Session,
+pub struct Synced {
+    pub session: Opened,
+    pub written: u32,
 }
 
-// What free gives back: the number, the sectors clear in both views, and those that the next sync releases.
+// Both figures of free: the sectors clear in both views, and those that the next sync releases.
 #[derive(Clone, Copy)]
-pub struct Room {
-    pub number: u32,
+pub struct Figures {
     pub free: u32,
     pub waiting: u32,
 }

@@ -5,115 +5,111 @@
 #![tactic(auto)]
 
 ghost use Rattle.std.specs.Prelude.{◌≡◌};
+ghost use Rattle.card.specs.Answers.{uncounted};
 ghost use Rattle.store.specs.Edit.{put_at, put, remove};
 ghost use Rattle.store.specs.Inner.{FitOf};
 
-use card::{Answer, refusal, success};
+use card::Refusal;
+use directory_search::find_name;
+use entries_names::good_name;
 use sectors::Sector;
-use session::Session;
+use session::{Session, present_view};
 use session_unfit::unfit;
 use store_change::{put_in, remove_in};
-use store_find::{Start, put_place, run_in, sectors_of};
-use words::Found;
+use store_find::{put_place, run_in, sectors_of};
 
 // Put with a goal in a session that fits: every test of put_at but 2, in its order
+#[tactic(auto, unfolding(store::specs::Edit::put_at, store::specs::Edit::put_plan, card::specs::Plan::guard, card::specs::Plan::need, card::specs::Plan::ended))]
 pub fn put_at_fitting(
     session: Session,
     work: &mut [u8],
     name: &[u8],
     content: &[u8],
     goal: Sector,
-) -> Answer
+) -> Result<(), Refusal>
     requires { FitOf session work.old }
-    ensures { (result ≡ (put_at session work.old name.now content.now goal.0).answer) × (work.new ≡ (put_at session work.old name.now content.now goal.0).image) }
+    ensures { (uncounted result ≡ (put_at session work.old name.now content.now goal.0).answer) × (work.new ≡ (put_at session work.old name.now content.now goal.0).image) }
 {
-    let Session::Open(s) = session else {
-        return refusal(4);
-    };
+    let s = session.ok_or(Refusal::Closed)?;
     if s.worn {
-        return refusal(9);
+        return Err(Refusal::Worn);
     }
-    let good_name = entries_names::good_name(name);
-    if !good_name {
-        return refusal(5);
+    if !good_name(name) {
+        return Err(Refusal::BadName);
     }
     if s.geo.s <= goal.0 {
-        return refusal(11);
+        return Err(Refusal::NoSector);
     }
-    let Found::At(j) = put_place(s, work, name) else {
-        return refusal(7);
-    };
-    let k = sectors_of(content);
-    let Start::From(a) = run_in(s, work, k, goal) else {
-        return refusal(8);
-    };
+    let j = put_place(s, work, name).ok_or(Refusal::NoEntry)?;
+    let a = run_in(s, work, sectors_of(content), goal).ok_or(Refusal::NoRoom)?;
     put_in(s, work, name, content, j, a);
-    success(0)
+    Ok(())
 }
 
 // Put with a goal: "4, 2, 9, 5", "11 for a goal of S or more, after 5 and before 7", "7, 8"
+#[tactic(auto, unfolding(store::specs::Inner::unfit, store::specs::Edit::put_at, store::specs::Edit::put_plan, card::specs::Plan::guard, card::specs::Plan::ended))]
 pub fn put_at(
     session: Session,
     work: &mut [u8],
     name: &[u8],
     content: &[u8],
     goal: Sector,
-) -> Answer
-    ensures { (result ≡ (put_at session work.old name.now content.now goal.0).answer) × (work.new ≡ (put_at session work.old name.now content.now goal.0).image) }
+) -> Result<(), Refusal>
+    ensures { (uncounted result ≡ (put_at session work.old name.now content.now goal.0).answer) × (work.new ≡ (put_at session work.old name.now content.now goal.0).image) }
 {
-    let unfit = unfit(session, work);
-    if unfit {
-        return refusal(2);
+    if unfit(session, work) {
+        return Err(Refusal::Unsound);
     }
     put_at_fitting(session, work, name, content, goal)
 }
 
 // Put without a goal in a session that fits
-pub fn put_fitting(session: Session, work: &mut [u8], name: &[u8], content: &[u8]) -> Answer
+#[tactic(auto, unfolding(store::specs::Edit::put))]
+pub fn put_fitting(
+    session: Session,
+    work: &mut [u8],
+    name: &[u8],
+    content: &[u8],
+) -> Result<(), Refusal>
     requires { FitOf session work.old }
-    ensures { (result ≡ (put session work.old name.now content.now).answer) × (work.new ≡ (put session work.old name.now content.now).image) }
+    ensures { (uncounted result ≡ (put session work.old name.now content.now).answer) × (work.new ≡ (put session work.old name.now content.now).image) }
 {
     put_at_fitting(session, work, name, content, Sector(0))
 }
 
 // "Goal 0 is today's rule, and calls without a goal keep it": put 4, 2, 9, 5, 7, 8
-pub fn put(session: Session, work: &mut [u8], name: &[u8], content: &[u8]) -> Answer
-    ensures { (result ≡ (put session work.old name.now content.now).answer) × (work.new ≡ (put session work.old name.now content.now).image) }
+#[tactic(auto, unfolding(store::specs::Edit::put))]
+pub fn put(session: Session, work: &mut [u8], name: &[u8], content: &[u8]) -> Result<(), Refusal>
+    ensures { (uncounted result ≡ (put session work.old name.now content.now).answer) × (work.new ≡ (put session work.old name.now content.now).image) }
 {
     put_at(session, work, name, content, Sector(0))
 }
 
 // Remove in a session that fits: every test of remove but 2, in its order
-pub fn remove_fitting(session: Session, work: &mut [u8], name: &[u8]) -> Answer
+#[tactic(auto, unfolding(store::specs::Edit::remove, store::specs::Edit::remove_plan, session::specs::Views::present_table, card::specs::Plan::guard, card::specs::Plan::need, card::specs::Plan::ended))]
+pub fn remove_fitting(session: Session, work: &mut [u8], name: &[u8]) -> Result<(), Refusal>
     requires { FitOf session work.old }
-    ensures { (result ≡ (remove session work.old name.now).answer) × (work.new ≡ (remove session work.old name.now).image) }
+    ensures { (uncounted result ≡ (remove session work.old name.now).answer) × (work.new ≡ (remove session work.old name.now).image) }
 {
-    let Session::Open(s) = session else {
-        return refusal(4);
-    };
+    let s = session.ok_or(Refusal::Closed)?;
     if s.worn {
-        return refusal(9);
+        return Err(Refusal::Worn);
+    } else if !good_name(name) {
+        return Err(Refusal::BadName);
     }
-    let good = entries_names::good_name(name);
-    if !good {
-        return refusal(5);
-    }
-    let g = s.geo;
-    let present = session::present_view(s);
-    let Found::At(j) = directory_search::find_name(work, g, present, present, name) else {
-        return refusal(6);
-    };
+    let present = present_view(s);
+    let j = find_name(work, s.geo, present, present, name).ok_or(Refusal::NoFile)?;
     remove_in(s, work, name, j);
-    success(0)
+    Ok(())
 }
 
 // "remove 4, 2, 9, 5, 6"
-pub fn remove(session: Session, work: &mut [u8], name: &[u8]) -> Answer
-    ensures { (result ≡ (remove session work.old name.now).answer) × (work.new ≡ (remove session work.old name.now).image) }
+#[tactic(auto, unfolding(store::specs::Inner::unfit, store::specs::Edit::remove, store::specs::Edit::remove_plan, card::specs::Plan::guard, card::specs::Plan::ended))]
+pub fn remove(session: Session, work: &mut [u8], name: &[u8]) -> Result<(), Refusal>
+    ensures { (uncounted result ≡ (remove session work.old name.now).answer) × (work.new ≡ (remove session work.old name.now).image) }
 {
-    let unfit = unfit(session, work);
-    if unfit {
-        return refusal(2);
+    if unfit(session, work) {
+        return Err(Refusal::Unsound);
     }
     remove_fitting(session, work, name)
 }

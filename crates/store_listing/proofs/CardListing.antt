@@ -10,15 +10,13 @@ use Rattle.counts.specs.declared.View.{View}
 use Rattle.counts.specs.Geometry.{geo_of, table_of}
 use Rattle.counts.specs.Stamps.{table_in, as_is}
 use Rattle.card.specs.declared.Line.{Line}
-use Rattle.card.specs.Plan.{guard, ended}
+use Rattle.card.specs.Plan.{Plan, refuse, guard, ended}
 use Rattle.card.specs.Files.{list_plan, list_end}
 use Rattle.card.specs.Sound.{shape_ok, sound}
 use Rattle.card.specs.Reading.{files_in, files_shown, read_plan, read_list}
 use Rattle.card.proofs.SoundTests.{shape-laid, as-table}
-use Rattle.store_listing.specs.declared.Listing.{Listing}
-use Rattle.store_listing.specs.Listings.{files_by, no_listing, view_listing, listing_in, card_listing}
-use Rattle.store_listing.specs.Inner.{HasRoom}
-use Rattle.store_listing.proofs.ListingLaws.{none-ready, in-ready, Fills, none-fills, in-fills}
+use Rattle.store_listing.specs.Listings.{Listing, files_by, no_listing, view_listing, listing_in, card_listing}
+use Rattle.store_listing.proofs.ListingLaws.{Ready, none-ready, in-ready, Fills, none-fills, in-fills}
 
 pub card-text : (card : List ℕ) (room : ℕ) → card_listing card room
     ≡ cond (shape_ok card) (cond (sound card) (listing_in (geo_of (sec card)) (as_is (geo_of (sec card))) card room) (no_listing 2)) (no_listing 1)
@@ -35,21 +33,20 @@ card-text card room = go (shape_ok card) (sound card) refl
     go true false e = refl
     go false c e = refl
 
+-- refused by what every reading call tests
+pub card-refused : (card : List ℕ) (room k : ℕ) → ((p : Plan) → read_plan card p ≡ refuse k) → no_listing k ≡ card_listing card room
+unfolding card_listing ended
+card-refused card room k e = rw (e (list_plan (files_shown card) room)) refl
+
 module _ (card : List ℕ) (room : ℕ) {r : Listing} where
-  pub card-1 : shape_ok card ≡ false → r ≡ no_listing 1 → r ≡ card_listing card room
-  card-1 z f = rw (card-text card room, z) f
-
-  pub card-2 : shape_ok card ≡ true → sound card ≡ false → r ≡ no_listing 2 → r ≡ card_listing card room
-  card-2 z y f = rw (card-text card room, z, y) f
-
   pub card-go : {g : Geo} {v : View} → shape_ok card ≡ true → sound card ≡ true → g ≡ geo_of (sec card) → v ≡ as_is g → r ≡ listing_in g v card room → r ≡ card_listing card room
   card-go z y p q f = rw (card-text card room, z, y) (rw (q, p) at f)
 
-pub read-ready : (card : List ℕ) (room : ℕ) → HasRoom (card_listing card room) card room
+pub read-ready : (card : List ℕ) (room : ℕ) → Ready (card_listing card room) card room
 read-ready card room = rw (card-text card room) (go (shape_ok card) (sound card) refl)
   where
     go : (b c : Bool) → shape_ok card ≡ b
-        → HasRoom (cond b (cond c (listing_in (geo_of (sec card)) (as_is (geo_of (sec card))) card room) (no_listing 2)) (no_listing 1)) card room
+        → Ready (cond b (cond c (listing_in (geo_of (sec card)) (as_is (geo_of (sec card))) card room) (no_listing 2)) (no_listing 1)) card room
     go true true e = in-ready (geo_of (sec card)) (as_is (geo_of (sec card))) card room (shape-laid card (geo_of (sec card)) refl e)
     go true false e = none-ready 2 card room
     go false c e = none-ready 1 card room

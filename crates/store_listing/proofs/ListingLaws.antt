@@ -1,4 +1,9 @@
 -- A listing goes before the lines: they have room, and what it fills is what list and reading's list say. Assumes nothing.
+use Rattle.std.specs.Prelude.{Option, Some, None, IsSome}
+use Rattle.counts.specs.Stamps.{table_in}
+use Rattle.directory.specs.Directory.{entries_of}
+use Rattle.card_files.specs.declared.Next.{Next}
+use Rattle.card_files.specs.Inner.{IsNext}
 use mathlib.Core.Path.{◌≡◌, refl, sym, ap, subst, ◌∙◌}
 use mathlib.Core.Bool.{Bool, true, false, cond}
 use mathlib.Core.List.{List, [], ◌∷◌, ◌++◌}
@@ -6,7 +11,7 @@ use Prim.Native.Nat.{ℕ, zero, suc, ◌+◌, ◌≤◌, ◌<◌}
 use native.Mathlib.Omega.{arith}
 use borrow.Author.Tests.{leb-true}
 use lib.Dec.{leb}
-use lib.ListN.{length, take, drop, get_or, set, length-set}
+use lib.ListN.{length, take, drop, get_or, set, length-set, length-drop}
 use lib.Seq.{take-length, drop-set-lt, drop-drop, get_or-drop}
 use Rattle.sectors.specs.Sectors.{sec}
 use Rattle.counts.specs.declared.Geo.{Geo}
@@ -16,14 +21,12 @@ use Rattle.card.specs.declared.Line.{Line}
 use Rattle.card.specs.Plan.{guard, ended, go_ahead, refused, done, Listed}
 use Rattle.card.specs.Files.{no_line, list_plan, list_end}
 use Rattle.session.specs.declared.Opened.{Opened}
-use Rattle.session.specs.declared.Session.{Session}
-use Rattle.session.specs.declared.Session.TheVariants.{Closed, Open}
+use Rattle.session.specs.Session.{Session}
 use Rattle.session.specs.Views.{present_view, present_table, present_files, session_files}
 use Rattle.session.specs.Fits.{fits}
 use Rattle.store.specs.Look.{list_tests, list}
 use Rattle.store.proofs.ViewLaws.{fit-laid}
-use Rattle.store_listing.specs.declared.Listing.{Listing}
-use Rattle.store_listing.specs.Listings.{files_by, files_at, files_from, no_listing, listing_in, session_listing, filled_to}
+use Rattle.store_listing.specs.Listings.{Listing, files_by, files_at, files_from, no_listing, listing_in, session_listing, filled_to}
 use Rattle.store_listing.proofs.ListingText.{in-text, session-text}
 use Rattle.store_listing.specs.Inner.{HasRoom}
 
@@ -64,25 +67,44 @@ line-next files i left r e f =
     let z : i + 0 ≡ i = omega arith in
     f ∙ ap (λ (l : List Line). get_or l 0 no_line) e ∙ get_or-drop i files 0 no_line ∙ ap (λ (m : ℕ). get_or files m no_line) z
 
-pub none-ready : (k : ℕ) (img : List ℕ) (room : ℕ) → HasRoom (no_listing k) img room
-unfolding no_listing refused
-none-ready k img room = (omega arith, λ h. absurd (omega (arith, h)))
+-- there is a next one as long as files are left
+pub next-there : (l : Listing) (img : List ℕ) (i j : ℕ) (o : Option Next) → files_from l img j ≡ drop i (files_at l img) → i < length (files_at l img)
+    → IsNext (table_in l.geo l.view (sec img)) (entries_of l.geo (sec img)) j o → IsSome o
+unfolding files_from
+next-there l img i j None e h n = absurd (omega (arith, ap length (sym n ∙ e), length-drop i (files_at l img)))
+next-there l img i j (Some x) e h n = refl
 
-pub in-ready : (g : Geo) (v : View) (img : List ℕ) (room : ℕ) → LaidOut g img → HasRoom (listing_in g v img room) img room
-unfolding done
+-- its line, and the files behind it
+pub next-told : (l : Listing) (img : List ℕ) (j : ℕ) (o : Option Next) (x : Next) → IsNext (table_in l.geo l.view (sec img)) (entries_of l.geo (sec img)) j o → o ≡ Some x
+    → (x.line ≡ get_or (files_from l img j) 0 no_line) × (files_from l img x.after ≡ drop 1 (files_from l img j))
+unfolding files_from
+next-told l img j o x n e =
+    let m = subst (IsNext (table_in l.geo l.view (sec img)) (entries_of l.geo (sec img)) j) e n in
+    (rw m refl, rw m refl)
+
+-- its lines have room, and are no more than its files
+abbrev pub Ready : Listing → List ℕ → ℕ → Type 0
+Ready l img room = HasRoom l img room × (l.answer.count ≤ length (files_at l img))
+
+pub none-ready : (k : ℕ) (img : List ℕ) (room : ℕ) → Ready (no_listing k) img room
+unfolding no_listing refused
+none-ready k img room = ((omega arith, λ h. absurd (omega (arith, h))), omega arith)
+
+pub in-ready : (g : Geo) (v : View) (img : List ℕ) (room : ℕ) → LaidOut g img → Ready (listing_in g v img room) img room
+unfolding done files_at
 in-ready g v img room laid = rw (in-text g v img room) (go (leb (length (files_by g v img)) room) refl)
   where
     go : (b : Bool) → leb (length (files_by g v img)) room ≡ b
-        → HasRoom (cond b (record { answer = done (length (files_by g v img)); geo = g; view = v }) (no_listing 10)) img room
-    go true e = (leb-true _ _ e, λ _. laid)
+        → Ready (cond b (record { answer = done (length (files_by g v img)); geo = g; view = v }) (no_listing 10)) img room
+    go true e = ((leb-true _ _ e, λ _. laid), omega arith)
     go false e = none-ready 10 img room
 
-pub list-ready : (s : Session) (work : List ℕ) (room : ℕ) → HasRoom (session_listing s work room) work room
+pub list-ready : (s : Session) (work : List ℕ) (room : ℕ) → Ready (session_listing s work room) work room
 unfolding session_listing list_tests ended
-list-ready Closed work room = none-ready 4 work room
-list-ready (Open s) work room = subst (λ (l : Listing). HasRoom l work room) (sym (session-text s work room)) (go (fits s work) refl)
+list-ready None work room = none-ready 4 work room
+list-ready (Some s) work room = subst (λ (l : Listing). Ready l work room) (sym (session-text s work room)) (go (fits s work) refl)
   where
-    go : (b : Bool) → fits s work ≡ b → HasRoom (cond b (listing_in s.geo (present_view s) work room) (no_listing 2)) work room
+    go : (b : Bool) → fits s work ≡ b → Ready (cond b (listing_in s.geo (present_view s) work room) (no_listing 2)) work room
     go true e = in-ready s.geo (present_view s) work room (fit-laid s work e)
     go false e = none-ready 2 work room
 
@@ -117,9 +139,9 @@ open-fills s work lines false = none-fills 2 work lines
 
 pub list-fills : (s : Session) (work : List ℕ) (lines : List Line) → Fills (session_listing s work (length lines)) work lines (list s work lines)
 unfolding session_listing list_tests list list_end session_files ended
-list-fills Closed work lines = none-fills 4 work lines
-list-fills (Open s) work lines =
-    subst (λ (l : Listing). Fills l work lines (list (Open s) work lines)) (sym (session-text s work (length lines))) (open-fills s work lines (fits s work))
+list-fills None work lines = none-fills 4 work lines
+list-fills (Some s) work lines =
+    subst (λ (l : Listing). Fills l work lines (list (Some s) work lines)) (sym (session-text s work (length lines))) (open-fills s work lines (fits s work))
 
 -- ---- "later lines stay", whatever is answered, and the table keeps its length
 

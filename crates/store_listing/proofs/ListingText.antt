@@ -1,4 +1,5 @@
 -- A listing, its tests one by one. Assumes nothing.
+use Rattle.std.specs.Prelude.{Some}
 use mathlib.Core.Path.{◌≡◌, refl}
 use mathlib.Core.Bool.{Bool, true, false, cond}
 use mathlib.Core.List.{List}
@@ -10,7 +11,6 @@ use Rattle.counts.specs.declared.View.{View}
 use Rattle.card.specs.Plan.{guard, ended, go_ahead, done}
 use Rattle.card.specs.Files.{list_plan}
 use Rattle.session.specs.declared.Opened.{Opened}
-use Rattle.session.specs.declared.Session.TheVariants.{Open}
 use Rattle.session.specs.Views.{present_view, present_table, present_files}
 use Rattle.session.specs.Fits.{fits}
 use Rattle.store.specs.Look.{list_tests}
@@ -26,7 +26,7 @@ in-text g v img room = go (leb (length (files_by g v img)) room)
     go true = refl
     go false = refl
 
-pub session-text : (s : Opened) (work : List ℕ) (room : ℕ) → session_listing (Open s) work room
+pub session-text : (s : Opened) (work : List ℕ) (room : ℕ) → session_listing (Some s) work room
     ≡ cond (fits s work) (listing_in s.geo (present_view s) work room) (no_listing 2)
 unfolding session_listing list_tests present_listing listing_in present_files present_table files_by guard ended
 session-text s work room = go (fits s work)

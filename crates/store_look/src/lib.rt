@@ -4,106 +4,92 @@
 // one is that test and then the inner one.
 #![tactic(auto)]
 
-ghost use Rattle.std.specs.Prelude.{◌≡◌};
-ghost use Rattle.store.specs.Look.{get, line, no_figures, free};
-ghost use Rattle.store.specs.Inner.{FitOf};
+ghost use Rattle.std.specs.Prelude.{◌≡◌, true, MatchResult};
+ghost use Rattle.card.specs.Answers.{counted, lined_of};
+ghost use Rattle.store.specs.Given.{room_of};
+ghost use Rattle.store.specs.Look.{get, line, free};
+ghost use Rattle.store.specs.Inner.{FitOf, unfit};
 
-use card::{Answer, Lined, refusal, success};
-use card_files::{file_count, get_in, line_in, no_lined, one_if};
-use session::Session;
+use card::{Line, Refusal};
+use card_files::{get_in, line_in};
+use session::{Session, present_view};
 use session_unfit::unfit;
-use store::Room;
+use store::Figures;
 use store_figures::figures_in;
 
-// No figures, and the number of a refusal.
-fn no_figures(k: u32) -> Room
-    ensures { result ≡ no_figures k }
+// The one test of a public call that its inner call does not make: 2
+#[tactic(auto, unfolding(store::specs::Inner::unfit))]
+fn judged(session: Session, work: &[u8]) -> Result<(), Refusal>
+    ensures { MatchResult result (λ _. FitOf session work.now) (λ r. (r ≡ Refusal.Unsound) × (unfit session work.now ≡ true)) }
 {
-    Room {
-        number: k,
-        free: 0,
-        waiting: 0,
+    if unfit(session, work) {
+        return Err(Refusal::Unsound);
     }
+    Ok(())
 }
 
 // Free in a session that fits: 4, then both figures.
-pub fn free_fitting(session: Session, work: &[u8]) -> Room
+#[tactic(auto, unfolding(store::specs::Look::free, store::specs::Look::no_figures))]
+pub fn free_fitting(session: Session, work: &[u8]) -> Result<Figures, Refusal>
     requires { FitOf session work.now }
-    ensures { result ≡ free session work.now }
+    ensures { room_of result ≡ free session work.now }
 {
-    let Session::Open(s) = session else {
-        return no_figures(4);
-    };
-    let g = s.geo;
-    let present = session::present_view(s);
-    let cut = counts::as_is(g);
-    let f = figures_in(work, g, present, cut);
-    Room {
-        number: 0,
-        free: f.free,
-        waiting: f.waiting,
-    }
+    let s = session.ok_or(Refusal::Closed)?;
+    let present = present_view(s);
+    let cut = counts::as_is(s.geo);
+    Ok(figures_in(work, s.geo, present, cut))
 }
 
 // "free 4, 2": the sectors clear in both views, and those that the next sync releases.
-pub fn free(session: Session, work: &[u8]) -> Room
-    ensures { result ≡ free session work.now }
+#[tactic(auto, unfolding(store::specs::Inner::unfit, store::specs::Look::free, store::specs::Look::no_figures, card::specs::Plan::guard, card::specs::Plan::ended))]
+pub fn free(session: Session, work: &[u8]) -> Result<Figures, Refusal>
+    ensures { room_of result ≡ free session work.now }
 {
-    let unfit = unfit(session, work);
-    if unfit {
-        return no_figures(2);
-    }
+    judged(session, work)?;
     free_fitting(session, work)
 }
 
-// The line at a position in a session that fits (4); the count is 1 where there is one, else 0.
-pub fn line_fitting(session: Session, work: &[u8], i: u32) -> Lined
+// The line at a position in a session that fits: 4, then the line where there is one.
+#[tactic(auto, unfolding(store::specs::Look::line))]
+pub fn line_fitting(session: Session, work: &[u8], i: u32) -> Result<Option<Line>, Refusal>
     requires { FitOf session work.now }
-    ensures { result ≡ line session work.now i }
+    ensures { lined_of result ≡ line session work.now i }
 {
-    let Session::Open(s) = session else {
-        return no_lined(4);
-    };
-    let g = s.geo;
-    let present = session::present_view(s);
-    let n = file_count(work, g, present);
-    let line = line_in(work, g, present, i);
-    let one = one_if(i < n);
-    let answer = success(one);
-    Lined { answer, line }
+    let s = session.ok_or(Refusal::Closed)?;
+    let present = present_view(s);
+    Ok(line_in(work, s.geo, present, i))
 }
 
-// The line at a position (4, 2); the count is 1 where there is one, else 0.
-pub fn line(session: Session, work: &[u8], i: u32) -> Lined
-    ensures { result ≡ line session work.now i }
+// "4, 2": the line at a position, where there is one.
+#[tactic(auto, unfolding(store::specs::Inner::unfit, store::specs::Look::line, card::specs::Files::line_end, card::specs::Plan::guard, card::specs::Plan::ended))]
+pub fn line(session: Session, work: &[u8], i: u32) -> Result<Option<Line>, Refusal>
+    ensures { lined_of result ≡ line session work.now i }
 {
-    let unfit = unfit(session, work);
-    if unfit {
-        return no_lined(2);
-    }
+    judged(session, work)?;
     line_fitting(session, work, i)
 }
 
 // Get in a session that fits: every test of get but 2, in its order
-pub fn get_fitting(session: Session, work: &[u8], name: &[u8], out: &mut [u8]) -> Answer
+#[tactic(auto, unfolding(store::specs::Look::get))]
+pub fn get_fitting(
+    session: Session,
+    work: &[u8],
+    name: &[u8],
+    out: &mut [u8],
+) -> Result<u32, Refusal>
     requires { FitOf session work.now }
-    ensures { (result ≡ (get session work.now name.now out.old).answer) × (out.new ≡ (get session work.now name.now out.old).out) }
+    ensures { (counted result ≡ (get session work.now name.now out.old).answer) × (out.new ≡ (get session work.now name.now out.old).out) }
 {
-    let Session::Open(s) = session else {
-        return refusal(4);
-    };
-    let g = s.geo;
-    let present = session::present_view(s);
-    get_in(work, g, present, name, out)
+    let s = session.ok_or(Refusal::Closed)?;
+    let present = present_view(s);
+    get_in(work, s.geo, present, name, out)
 }
 
 // "get 4, 2, 5, 6, 10"
-pub fn get(session: Session, work: &[u8], name: &[u8], out: &mut [u8]) -> Answer
-    ensures { (result ≡ (get session work.now name.now out.old).answer) × (out.new ≡ (get session work.now name.now out.old).out) }
+#[tactic(auto, unfolding(store::specs::Inner::unfit, store::specs::Look::get, card::specs::Files::get_end, card::specs::Plan::guard, card::specs::Plan::ended))]
+pub fn get(session: Session, work: &[u8], name: &[u8], out: &mut [u8]) -> Result<u32, Refusal>
+    ensures { (counted result ≡ (get session work.now name.now out.old).answer) × (out.new ≡ (get session work.now name.now out.old).out) }
 {
-    let unfit = unfit(session, work);
-    if unfit {
-        return refusal(2);
-    }
+    judged(session, work)?;
     get_fitting(session, work, name, out)
 }

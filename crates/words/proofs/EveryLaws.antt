@@ -1,4 +1,5 @@
 -- How a loop proves a test of every element, or a search: the answer for what is left. Assumes nothing.
+use Rattle.std.specs.Prelude.{Option, Some, None}
 use mathlib.Core.Path.{◌≡◌, refl, sym, ap, ◌∙◌}
 use mathlib.Core.Bool.{Bool, true, false, not, cond, ◌&&◌}
 use mathlib.Core.List.{List, [], ◌∷◌}
@@ -11,8 +12,6 @@ use borrow.Author.Tests.{not-true, not-false}
 use lib.ListN.{length, drop, get_or, drop_of_length-le}
 use lib.Seq.{drop-cons}
 use lib.Dec.{eqb}
-use Rattle.words.specs.declared.Found.{Found}
-use Rattle.words.specs.declared.Found.TheVariants.{At, Nowhere}
 use Rattle.words.proofs.BoolLaws.{both}
 use Rattle.words.specs.Lists.{every, pairwise, first_at, eq_list}
 
@@ -144,21 +143,21 @@ every-all f (x ∷ l) d q = rw (q 0 (omega arith), every-all f l d (λ i k. q (s
 
 -- ---- the first element that passes
 
-pub first_next : {A : Type 0} (f : A → Bool) (l : List A) (i : ℕ) (d : A) → i < length l → first_at f i (drop i l) ≡ cond (f (get_or l i d)) (At i) (first_at f (i + 1) (drop (i + 1) l))
+pub first_next : {A : Type 0} (f : A → Bool) (l : List A) (i : ℕ) (d : A) → i < length l → first_at f i (drop i l) ≡ cond (f (get_or l i d)) (Some i) (first_at f (i + 1) (drop (i + 1) l))
 unfolding first_at
 first_next f l i d h = rw (add-one, drop-cons l i d h)
 
-module _ {A : Type 0} (f : A → Bool) (l : List A) (d : A) {b : Found} where
-  pub first-stop : (i : ℕ) (r : Bool) → i < length l → r ≡ f (get_or l i d) → r ≡ true → b ≡ first_at f i (drop i l) → At i ≡ b
+module _ {A : Type 0} (f : A → Bool) (l : List A) (d : A) {b : Option ℕ} where
+  pub first-stop : (i : ℕ) (r : Bool) → i < length l → r ≡ f (get_or l i d) → r ≡ true → b ≡ first_at f i (drop i l) → Some i ≡ b
   first-stop i r h e n inv =
       let z : f (get_or l i d) ≡ true = sym e ∙ n in
-      sym (inv ∙ first_next f l i d h ∙ ap (λ (t : Bool). cond t (At i) (first_at f (i + 1) (drop (i + 1) l))) z)
+      sym (inv ∙ first_next f l i d h ∙ ap (λ (t : Bool). cond t (Some i) (first_at f (i + 1) (drop (i + 1) l))) z)
 
   pub first-go : (i : ℕ) (r : Bool) → i < length l → r ≡ f (get_or l i d) → r ≡ false → b ≡ first_at f i (drop i l) → b ≡ first_at f (i + 1) (drop (i + 1) l)
   first-go i r h e n inv =
       let z : f (get_or l i d) ≡ false = sym e ∙ n in
-      inv ∙ first_next f l i d h ∙ ap (λ (t : Bool). cond t (At i) (first_at f (i + 1) (drop (i + 1) l))) z
+      inv ∙ first_next f l i d h ∙ ap (λ (t : Bool). cond t (Some i) (first_at f (i + 1) (drop (i + 1) l))) z
 
-  pub first-end : (i : ℕ) → length l ≤ i → b ≡ first_at f i (drop i l) → Nowhere ≡ b
+  pub first-end : (i : ℕ) → length l ≤ i → b ≡ first_at f i (drop i l) → None ≡ b
   unfolding first_at
   first-end i h inv = sym (inv ∙ ap (λ (x : List A). first_at f i x) (drop_of_length-le l h))

@@ -1,11 +1,14 @@
 -- The bytes are stored with all of their bits put. Assumes nothing.
-use mathlib.Core.Path.{◌∙◌}
+use mathlib.Core.Path.{◌≡◌, ◌∙◌}
+use Prim.Native.Nat.{◌*◌}
 use native.Mathlib.Omega.{arith}
-use borrow.Author.Rules.{rules}
-use Rattle.apages.proofs.ByteLaws.{bytes_same}
+use Rattle.words_sums.specs.Sums.{bit}
+use Rattle.apages.proofs.ByteLaws.{bytes_put}
 use Rattle.apages.proofs.put_bytes.Goals as goal
+use Rattle.apages.proofs.put_bytes.Goals.{then-v, else-v}
 
 pub returns : goal.returns
 returns c =
-    c.put_same.ensures
-    ∙ bytes_same _ (λ i. omega (arith, c.slice_known-1.given i)) c.args.j c.args.m c.args.v (search rules) (search rules)
+    let a = c.args in
+    let e : c.if-v.byte ≡ 255 * bit a.v = elim c.if-v.branch [ then-v w ↦ w.byte-is ∙ rw w.if-v.true | else-v w ↦ w.byte-is ∙ rw w.if-v.false ] in
+    bytes_put a.p.now (λ i. omega (arith, c.slice_known-1.given i)) a.j a.m a.v e (c.fill.ensures.after (λ y q. q)) (omega arith)

@@ -1,4 +1,4 @@
--- The loop's invariant: the first i bits of the run are set. Assumes nothing.
+-- The loop's invariant: the bits of the run below sector n are set. Assumes nothing.
 use mathlib.Core.Path.{sym, ◌∙◌}
 use native.Mathlib.Omega.{arith}
 use borrow.Author.Rules.{rules}
@@ -6,14 +6,11 @@ use Rattle.apages.proofs.ByteLaws.{run-next}
 use Rattle.apages.proofs.RunLaws.{run_none, run-done}
 use Rattle.apages.proofs.set_run.Goals as goal
 
-pub loop-i-init : goal.loop-i-init
-loop-i-init c = (search rules, sym (run_none _ _ _), search rules)
+pub loop-n-init : goal.loop-n-init
+loop-n-init c = (search rules, search rules, run-done _ _ 0 _ _ (sym (run_none _ _ _)) (omega arith), search rules)
 
-pub loop-i-preserved : goal.loop-i-preserved
-loop-i-preserved c =
-    let put = c.put_next-i in
-    let inv = c.loop-i.invariant in
-    (omega (arith, put.ensures.2), run-next _ _ _ _ _ inv.1 put.ensures.0, put.auto.p ∙ inv.2)
-
-pub returns : goal.returns
-returns c = run-done _ _ _ _ _ c.loop-i.invariant.1 (omega arith)
+pub loop-n-preserved : goal.loop-n-preserved
+loop-n-preserved c =
+    let put = c.put_next-n.ensures in
+    let inv = c.loop-n.invariant in
+    (omega (arith, inv.0), put.2, run-next _ _ _ _ _ inv.0 inv.2 put.0, c.put_next-n.auto.p ∙ inv.3)

@@ -21,19 +21,19 @@ pub returns-then-n-eq0 : goal.returns-then-n-eq0
 returns-then-n-eq0 c = run_none _ _ _ _ _ _ _ c.if-n-eq0.true
 
 pub slice_bounds-index_of-end : goal.slice_bounds-index_of-end
-slice_bounds-index_of-end c = omega (arith, pages-few c.args.g c.requires.0.s, in-page _ _ _ c.if-n-eq0.false c.requires.1.1.0.1, c.requires.0.room, c.group_at-at.ensures)
+slice_bounds-index_of-end c = omega (arith, pages-few c.args.g c.requires.0.s, in-page _ _ _ c.if-n-eq0.false c.requires.1.1.1, c.requires.0.room, c.group_at-at.ensures)
 
 pub change_pair-requires : goal.change_pair-requires
 change_pair-requires c =
-    let l = in-page _ _ _ c.if-n-eq0.false c.requires.1.1.0.1 in
+    let l = in-page _ _ _ c.if-n-eq0.false c.requires.1.1.1 in
     let x = c.index_of-x.ensures ∙ ap index_of (lent _ _ c.args.img.now c.group_at-at.ensures) in
     let few = pages-few c.args.g c.requires.0.s in
-    let named = change-named c.args.g c.args.img.now c.args.own _ c.args.a.0 (omega (arith, few, l)) x c.changed_index-y.ensures (c.requires.1.0 _ l) in
-    (c.requires.0, (l, (named, (c.requires.1.1.0.0, c.requires.1.1.1))))
+    let named = change-named c.args.g c.args.img.now c.args.own _ c.args.a.0 (omega (arith, few, l)) x c.changed_index.ensures (c.requires.1.0 _ l) in
+    (c.requires.0, (l, (named, c.requires.1.1.0)))
 
 pub returns : goal.returns
 returns c =
-    let l = in-page _ _ _ c.if-n-eq0.false c.requires.1.1.0.1 in
+    let l = in-page _ _ _ c.if-n-eq0.false c.requires.1.1.1 in
     let x = c.index_of-x.ensures ∙ ap index_of (lent _ _ c.args.img.now c.group_at-at.ensures) in
     let few = pages-few c.args.g c.requires.0.s in
-    run-some c.args.g c.args.img.now c.args.own _ c.args.a.0 (omega (arith, few, l)) x c.changed_index-y.ensures _ _ _ c.if-n-eq0.false c.stands-st.ensures c.change_pair.ensures
+    run-some c.args.g c.args.img.now c.args.own _ c.args.a.0 (omega (arith, few, l)) x c.changed_index.ensures _ _ _ c.if-n-eq0.false c.stands-st.ensures c.change_pair.ensures

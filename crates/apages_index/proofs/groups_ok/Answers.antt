@@ -1,28 +1,26 @@
--- In the loop the answer is that for the groups that are left. Assumes nothing.
-use mathlib.Core.Bool.{not}
-use mathlib.Core.Path.{ap}
+-- The walk over the groups, each with its number, answers for every group. Assumes nothing.
+use mathlib.Core.Path.{refl, ap, ◌∙◌}
+use Prim.Native.Nat.{◌/◌}
 use native.Mathlib.Omega.{arith}
-use Rattle.apages.proofs.ChangeLaws.{group-part, groups-start, groups-stop, groups-go, groups-end}
+use borrow.Author.Rules.{rules}
+use lib.ListN.{length}
+use Rattle.std.specs.Simd.{first_chunks}
+use Rattle.std.proofs.lemmas.Iterator.{YieldsList-from_range, YieldsList-from_slice, YieldsList-from_zip}
+use Rattle.std.proofs.lemmas.Iterator.Consumers.{YieldsList-at}
+use Rattle.std.proofs.lemmas.Iterator.Search.{all_from_yields_List}
+use Rattle.sectors.specs.Sectors.{sec}
+use Rattle.counts.specs.Stamps.{table_in}
+use Rattle.apages.specs.Index.{group_ok, every_group}
+use Rattle.apages.proofs.ChangeLaws.{groups-walked}
 use Rattle.apages_index.proofs.groups_ok.Goals as goal
-
-pub loop-p-init : goal.loop-p-init
-loop-p-init c = (omega arith, groups-start _ _ _)
-
-pub returns-then-not-ok : goal.returns-then-not-ok
-returns-then-not-ok c =
-    let a = c.args in
-    let l = c.loop-p in
-    let e = rw group-part at c.group_ok-ok.ensures in
-    groups-stop _ a.ix.now _ _ _ (omega arith) e (ap not c.if-not-ok.true) l.invariant.1
-
-pub loop-p-preserved : goal.loop-p-preserved
-loop-p-preserved c =
-    let a = c.args in
-    let l = c.loop-p in
-    let e = rw group-part at c.group_ok-ok.ensures in
-    (omega arith, groups-go _ a.ix.now _ _ _ (omega arith) e (ap not c.if-not-ok.false) l.invariant.1)
 
 pub returns : goal.returns
 returns c =
     let a = c.args in
-    groups-end _ a.ix.now _ _ (omega arith) c.loop-p.invariant.1
+    let ix = a.ix.now in
+    let n = c.pairs.result in
+    let ok = group_ok a.g a.bound.0 (table_in a.g a.v (sec a.card.now)) in
+    let numbers = YieldsList-at c.zip.ensures.first (YieldsList-from_range 0 n n refl (omega arith)) in
+    let groups = YieldsList-from_slice (first_chunks 16 (length ix / 16) ix) (c.zip.ensures.second.0 ∙ c.as_chunks.ensures.front) in
+    all_from_yields_List (λ w. ok w.0 w.1) c.all.new.self _ _ c.all.ensures.ran (YieldsList-from_zip numbers groups) (λ x b q k. search rules)
+    ∙ groups-walked ok ix n (length ix / 16) (omega arith) ∙ ap (every_group ok ix 0) c.pairs.ensures.0

@@ -1,35 +1,37 @@
--- The loop's invariant: the ones of the words passed, of both pages taken together, are counted. Assumes nothing.
+-- The ones of each two words add up to those of both pages taken together. Assumes nothing.
 use mathlib.Core.Path.{sym, ap, ◌∙◌}
-use Prim.Native.Nat.{ℕ, ◌<◌}
+use Prim.Native.Nat.{ℕ, ◌/◌, ◌^◌}
 use native.Mathlib.Omega.{arith}
 use borrow.Author.Rules.{rules}
-use lib.ListN.{get_or}
-use Rattle.words_sums.specs.Sums.{total}
-use Rattle.words_sums.proofs.SumLaws.{total-none}
-use Rattle.apages.specs.Bits.{bit_at}
-use Rattle.apages.specs.Inner.{either}
-use Rattle.apages.proofs.Either.{either-length, either-more}
-use Rattle.apages.specs.Ones.{set_bits}
+use lib.Bits.{bit_or}
+use lib.Count.{ones}
+use lib.ListN.{length}
+use Rattle.std.specs.Simd.{first_chunks}
+use Rattle.std.proofs.lemmas.Iterator.{YieldsList-from_slice, YieldsList-from_zip, YieldsList-from_map}
+use Rattle.std.proofs.lemmas.Iterator.Consumers.{YieldsList-at, sum_from_yields_List, fits_from_yields_list}
+use Rattle.apages.specs.Ones.{word64_at}
+use Rattle.apages.proofs.Words64.{both-sum, both-few}
 use Rattle.apages_ones.proofs.either_set.Goals as goal
 
-pub loop-at-init : goal.loop-at-init
-loop-at-init c = (search rules, search rules, sym (total-none _), search rules)
-
-pub loop-at-preserved : goal.loop-at-preserved
-loop-at-preserved c =
+pub sum-requires-clause-fits : goal.sum-requires-clause-fits
+sum-requires-clause-fits c =
     let p = c.args.p.now in
     let q = c.args.q.now in
-    let ps : (j : ℕ) → get_or p j 0 < 256 = λ j. omega (arith, c.type_inv.p j) in
-    let qs : (j : ℕ) → get_or q j 0 < 256 = λ j. omega (arith, c.shared_slice_known-2-1.given j) in (
-      omega arith,
-      omega arith,
-      either-more p q (sym c.requires.2) ps qs _ _ c.word64.ensures c.word64-in-loop-at.ensures c.ones_of-sum.ensures.0 c.loop-at.invariant.2,
-      omega arith,
-    )
+    let k = length p / 8 in
+    let few = both-few p q (sym c.requires.2) (λ j. omega (arith, c.type_inv.p j)) (λ j. omega (arith, c.type_inv.q j)) k (omega arith) in
+    let first = YieldsList-at c.zip.ensures.first (YieldsList-from_slice (first_chunks 8 k p) (c.iter.ensures.rest ∙ c.words_of.ensures)) in
+    let second = YieldsList-from_slice (first_chunks 8 k q) (c.zip.ensures.second.0 ∙ c.words_of-2.ensures ∙ ap (λ (n : ℕ). first_chunks 8 (n / 8) q) c.requires.2) in
+    fits_from_yields_list c.map.result (2 ^ 32)
+    (YieldsList-from_map _ (λ w. ones (bit_or (word64_at w.0 0) (word64_at w.1 0))) (YieldsList-at c.map.ensures.source (YieldsList-from_zip first second)) c.map.ensures.closure (λ x r f h. search rules))
+    (omega arith)
 
 pub returns : goal.returns
-unfolding set_bits
 returns c =
     let p = c.args.p.now in
     let q = c.args.q.now in
-    c.loop-at.invariant.2 ∙ ap (λ (n : ℕ). total (bit_at (either p q)) n) (omega (arith, either-length p q (sym c.requires.2)))
+    let k = length p / 8 in
+    let first = YieldsList-at c.zip.ensures.first (YieldsList-from_slice (first_chunks 8 k p) (c.iter.ensures.rest ∙ c.words_of.ensures)) in
+    let second = YieldsList-from_slice (first_chunks 8 k q) (c.zip.ensures.second.0 ∙ c.words_of-2.ensures ∙ ap (λ (n : ℕ). first_chunks 8 (n / 8) q) c.requires.2) in
+    sum_from_yields_List c.map.result _ c.sum.ensures.ran
+    (YieldsList-from_map _ (λ w. ones (bit_or (word64_at w.0 0) (word64_at w.1 0))) (YieldsList-at c.map.ensures.source (YieldsList-from_zip first second)) c.map.ensures.closure (λ x r f h. search rules))
+    ∙ both-sum p q (sym c.requires.2) (λ j. omega (arith, c.type_inv.p j)) (λ j. omega (arith, c.type_inv.q j)) k (omega arith)

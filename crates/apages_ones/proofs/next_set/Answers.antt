@@ -1,32 +1,28 @@
 -- A full word, a full byte, or one bit. Assumes nothing.
-use mathlib.Core.Path.{sym, ◌∙◌}
-use Prim.Native.Nat.{◌+◌, ◌/◌, ◌%◌}
+use mathlib.Core.Path.{sym, ap, ◌∙◌}
+use mathlib.Core.List.{List, []}
+use Prim.Native.Nat.{ℕ, ◌/◌}
 use native.Mathlib.Omega.{arith}
-use borrow.Author.Tests.{eqb-true, leb-true}
-use lib.Dec.{eqb, leb}
 use lib.ListN.{get_or}
-use Rattle.words.proofs.BoolLaws.{both}
-use Rattle.apages.proofs.OnesLaws.{word_set, full-set, bit-set}
+use Rattle.apages.specs.Ones.{word64_at}
+use Rattle.apages.proofs.BitLaws.{bit-lt, bit-from}
+use Rattle.apages.proofs.OnesLaws.{full-set, bit-set}
+use Rattle.apages.proofs.Words64.{word-inside, word-full}
 use Rattle.apages_ones.proofs.next_set.Goals as goal
 
-pub word64-requires : goal.word64-requires
-word64-requires c =
-    let a = c.args in
-    let (x, y) = both (eqb (a.n % 64) 0) (leb (a.n + 64) a.end) c.if-n-end.true in
-    omega (arith, leb-true (a.n + 64) a.end y, c.requires.2)
+pub bounds-words_of-n : goal.bounds-words_of-n
+bounds-words_of-n c = rw c.words_of.ensures (word-inside c.args.p.now c.args.n (omega arith))
 
 pub returns-then-word64 : goal.returns-then-word64
 returns-then-word64 c =
-    let a = c.args in
-    let (x, y) = both (eqb (a.n % 64) 0) (leb (a.n + 64) a.end) c.if-n-end.true in
-    (word_set a.p.now (λ j. omega (arith, c.type_inv.p j)) _ (eqb-true _ _ x) (sym c.word64.ensures ∙ c.if-word64.true), leb-true _ _ y, λ e. absurd (omega arith))
+    let p = c.args.p.now in
+    let e = c.word64.ensures ∙ ap (λ (ws : List (List ℕ)). word64_at (get_or ws (c.args.n / 64) []) 0) c.words_of.ensures in
+    (word-full p (λ j. omega (arith, c.type_inv.p j)) c.args.n c.if-n-eq0.true (omega arith) e c.if-word64.true, c.if-n-end.true, λ z. absurd (omega arith))
 
-pub returns-then-n-end-2 : goal.returns-then-n-end-2
-returns-then-n-end-2 c =
-    let a = c.args in
-    let (u, z) = both _ (eqb (get_or a.p.now (a.n / 8) 0) 255) c.if-n-end-2.true in
-    let (x, y) = both (eqb (a.n % 8) 0) (leb (a.n + 8) a.end) u in
-    (full-set _ _ (eqb-true _ _ x) (eqb-true _ _ z), leb-true _ _ y, λ e. absurd (omega arith))
+pub returns-then-p-n : goal.returns-then-p-n
+returns-then-p-n c = (full-set _ _ c.if-n-eq0-2.true c.if-p-n.true, c.if-n-end-2.true, λ e. absurd (omega arith))
 
-pub returns : goal.returns
-returns c = (bit-set _ _ c.bit.ensures.0, omega arith, λ e. omega (arith, c.bit.ensures.0))
+pub returns-else-n-eq0-2 : goal.returns-else-n-eq0-2
+returns-else-n-eq0-2 c =
+    let e = c.from.ensures ∙ bit-from c.bit.result ∙ c.bit.ensures in
+    (bit-set _ _ e, omega (arith, bit-lt c.args.p.now c.args.n), λ z. sym e ∙ z)

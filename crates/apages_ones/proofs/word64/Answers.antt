@@ -1,8 +1,7 @@
--- Two words of 32 bits, by the definition. Assumes nothing.
-use borrow.Author.Rules.{rules}
-use Rattle.apages.specs.Ones.{word64_at}
+-- The bytes one by one. Assumes nothing.
+use mathlib.Core.Path.{◌∙◌}
+use Rattle.apages.proofs.Words64.{word64-bytes}
 use Rattle.apages_ones.proofs.word64.Goals as goal
 
 pub returns : goal.returns
-unfolding word64_at
-returns c = search rules
+returns c = c.from_le_bytes.ensures ∙ word64-bytes c.args.w.now

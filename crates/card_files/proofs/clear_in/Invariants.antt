@@ -9,7 +9,4 @@ use Rattle.apages.specs.Index.{map_from, page_in}
 use Rattle.card_files.proofs.clear_in.Given as goal
 
 abbrev pub invariant-loop-p : goal.invariant-loop-p
-invariant-loop-p l = (l.p ≤ g_p l.g) × (l.clear + clear_bits (map_from l.g (table_in l.g l.v (sec l.card)) (sec l.card) l.p (g_p l.g - l.p)) ≡ clear_bits (page_in l.g (table_in l.g l.v (sec l.card)) (sec l.card))) × (l.clear ≤ 4096 * l.p)
-
-abbrev pub decreases-loop-p : goal.decreases-loop-p
-decreases-loop-p l = g_p l.g - l.p
+invariant-loop-p l = (l.clear + clear_bits (map_from l.g (table_in l.g l.v (sec l.card)) (sec l.card) l.p (g_p l.g - l.p)) ≡ clear_bits (page_in l.g (table_in l.g l.v (sec l.card)) (sec l.card))) × (l.clear ≤ 4096 * l.p)

@@ -1,12 +1,13 @@
--- The loop's invariant: the files counted and those left make the whole. Assumes nothing.
-use native.Mathlib.Omega.{arith}
-use borrow.Author.Rules.{rules}
-use Rattle.directory.proofs.DirectoryLaws.{entries-lt, entries-le}
-use Rattle.card.proofs.LineLaws.{count-go, count-end}
+-- The entries that show a file are as many as the files. Assumes nothing.
+use Rattle.std.proofs.Common.{◌∙◌, rules}
+use Rattle.sectors.specs.Sectors.{sec}
+use Rattle.counts.specs.Stamps.{table_in}
+use Rattle.directory.proofs.EntryRuns.{count-of}
+use Rattle.card_files.specs.Inner.{shows}
+use Rattle.card_files.proofs.Listed.{count-is}
 use Rattle.card_files.proofs.file_count.Goals as goal
 
-pub loop-j-preserved : goal.loop-j-preserved
-loop-j-preserved c = (search rules, count-go _ _ _ (entries-lt _ _ _ c.loop-j-test.true) _ _ c.shows-n.ensures.0 c.loop-j.invariant.1, search rules)
-
 pub returns : goal.returns
-returns c = count-end _ _ _ (entries-le _ _ c.loop-j.j (omega arith)) _ c.loop-j.invariant.1
+returns c =
+    count-of (shows (table_in c.args.g c.args.v (sec c.args.card.now))) c.entries.ensures.gives (λ x b q h. search rules) c.filter.ensures.source c.filter.ensures.closure c.count.ensures.ran
+    ∙ count-is _ _

@@ -1,21 +1,18 @@
--- The loop's invariant: the line looked for is at a position of the files that are left. Assumes nothing.
-use mathlib.Core.Path.{refl, ◌∙◌}
-use native.Mathlib.Omega.{arith}
-use borrow.Author.Rules.{rules}
-use Rattle.directory.proofs.DirectoryLaws.{entries-lt, entries-le}
-use Rattle.card.specs.Files.{run_at}
-use Rattle.card.proofs.LineLaws.{line-stop, line-go, line-end}
+-- The line of the entry that stands at that position of those that show a file. Assumes nothing.
+use Rattle.std.proofs.Common.{rules}
+use Rattle.std.specs.Slice.Iter.{chunks_exact_steps}
+use Rattle.std.proofs.lemmas.Iterator.{YieldsList}
+use Rattle.std.proofs.lemmas.Iterator.Consumers.{nth_from_yields_List, YieldsList-at, YieldsList-from_filter}
+use Rattle.sectors.specs.Sectors.{sec}
+use Rattle.counts.specs.Stamps.{table_in}
+use Rattle.directory.specs.Directory.{entries_of}
+use Rattle.card_files.specs.Inner.{shows}
+use Rattle.card_files.proofs.Listed.{line-at}
 use Rattle.card_files.proofs.line_in.Goals as goal
 
-pub loop-j-init : goal.loop-j-init
-loop-j-init c = (search rules, refl)
-
-pub returns-then-left-one : goal.returns-then-left-one
-unfolding run_at
-returns-then-left-one c = c.line_at.ensures ∙ line-stop _ _ _ (entries-lt _ _ _ c.loop-j-test.true) _ _ _ c.shows-one.ensures.0 c.if-left-one.true c.loop-j.invariant.1
-
-pub loop-j-preserved : goal.loop-j-preserved
-loop-j-preserved c = (search rules, line-go _ _ _ (entries-lt _ _ _ c.loop-j-test.true) _ _ _ c.shows-one.ensures.0 (omega arith) c.loop-j.invariant.1)
-
 pub returns : goal.returns
-returns c = c.no_line.ensures ∙ line-end _ _ _ (entries-le _ _ c.loop-j.j (omega arith)) _ _ c.loop-j.invariant.1
+returns c =
+    let tab = table_in c.args.g c.args.v (sec c.args.card.now) in
+    let es = entries_of c.args.g (sec c.args.card.now) in
+    let y : YieldsList chunks_exact_steps (λ p. p.now) _ es = YieldsList-at c.filter.ensures.source record { runs = c.entries.ensures.gives.yields } in
+    line-at tab es c.args.i _ _ (nth_from_yields_List _ _ _ c.nth.ensures.ran (YieldsList-from_filter _ (shows tab) y c.filter.ensures.closure (λ x b q h. search rules))) c.map.ensures.cases (λ p l h. search rules)

@@ -1,6 +1,5 @@
 -- The loop's invariant: the files from the first entry on are those that are left. Assumes nothing.
 use mathlib.Core.Path.{◌≡◌}
-use Prim.Native.Nat.{◌-◌, ◌*◌}
 use lib.ListN.{drop}
 use Rattle.sectors.specs.Sectors.{sec}
 use Rattle.counts.specs.Stamps.{table_in}
@@ -10,6 +9,3 @@ use Rattle.card_files.proofs.next_line.Given as goal
 
 abbrev pub invariant-loop-j : goal.invariant-loop-j
 invariant-loop-j l = files_of (table_in l.g l.v (sec l.card)) (drop l.from (entries_of l.g (sec l.card))) ≡ files_of (table_in l.g l.v (sec l.card)) (drop l.j (entries_of l.g (sec l.card)))
-
-abbrev pub decreases-loop-j : goal.decreases-loop-j
-decreases-loop-j l = 4 * l.g.d - l.j

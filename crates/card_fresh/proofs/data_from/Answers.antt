@@ -8,6 +8,6 @@ pub returns-then-p-gt0 : goal.returns-then-p-gt0
 unfolding data_from g_f g_dir g_p
 returns-then-p-gt0 c = (omega (arith, c.requires), omega arith)
 
-pub returns : goal.returns
+pub returns-else-p-gt0 : goal.returns-else-p-gt0
 unfolding data_from
-returns c = (omega arith, omega arith)
+returns-else-p-gt0 c = (omega arith, omega arith)

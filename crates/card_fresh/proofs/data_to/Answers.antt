@@ -4,18 +4,14 @@ use Rattle.counts.specs.Geometry.{g_p}
 use Rattle.apages.specs.Runs.{data_to}
 use Rattle.card_fresh.proofs.data_to.Goals as goal
 
-pub overflow_mul-left : goal.overflow_mul-left
+pub overflow_mul-p : goal.overflow_mul-p
 unfolding g_p
-overflow_mul-left c = omega arith
+overflow_mul-p c = omega arith
 
-pub overflow_sub-left : goal.overflow_sub-left
+pub overflow_sub-g : goal.overflow_sub-g
 unfolding g_p
-overflow_sub-left c = omega arith
+overflow_sub-g c = omega arith
 
-pub returns-then-left-lt4096 : goal.returns-then-left-lt4096
+pub returns : goal.returns
 unfolding data_to
-returns-then-left-lt4096 c = (omega arith, omega arith)
-
-pub returns-else-left-lt4096 : goal.returns-else-left-lt4096
-unfolding data_to
-returns-else-left-lt4096 c = (omega arith, omega arith)
+returns c = (omega arith, omega arith)

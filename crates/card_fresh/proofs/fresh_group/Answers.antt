@@ -10,5 +10,5 @@ pub returns : goal.returns
 unfolding fresh_group
 returns c =
     let zero : Stamp = record { cc = record { 0 = 0 }; txc = record { 0 = 0 } } in
-    ap (λ (x : ℕ). record { stamp = zero; a = record { 0 = x }; b = c.pair_high-b.result }) c.pair_low-a.ensures
-    ∙ ap (λ (x : ℕ). record { stamp = zero; a = record { 0 = pair_low c.args.g c.args.p }; b = record { 0 = x } }) c.pair_high-b.ensures
+    ap (λ (x : ℕ). record { stamp = zero; a = record { 0 = x }; b = c.pair.result.1 }) c.pair.ensures.low
+    ∙ ap (λ (x : ℕ). record { stamp = zero; a = record { 0 = pair_low c.args.g c.args.p }; b = record { 0 = x } }) c.pair.ensures.high

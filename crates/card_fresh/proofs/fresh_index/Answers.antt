@@ -9,16 +9,15 @@ use Rattle.card_fresh.proofs.fresh_index.Goals as goal
 
 pub loop-p-init : goal.loop-p-init
 unfolding pad fresh_groups
-loop-p-init c = (omega arith, refl, refl)
+loop-p-init c = (refl, refl)
 
 pub loop-p-preserved : goal.loop-p-preserved
 loop-p-preserved c =
     let l = c.loop-p in
-    let e = c.fresh_group-x.ensures in
-    (omega arith, omega (arith, c.put_group.auto.s), group-turn _ _ l.invariant.1 (omega arith) l.invariant.2 (rw e at c.put_group.ensures))
+    (omega (arith, c.put_group.auto.s), group-turn _ _ l.invariant.0 (omega arith) l.invariant.1 (rw c.fresh_group.ensures at c.put_group.ensures))
 
 pub returns : goal.returns
 unfolding fresh_index
 returns c =
     let l = c.loop-p in
-    let e : g_p c.args.g ≡ l.p = omega arith in rw e l.invariant.2
+    let e : g_p c.args.g ≡ l.p = omega arith in rw e l.invariant.1

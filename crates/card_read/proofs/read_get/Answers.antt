@@ -1,18 +1,7 @@
--- One answer of the definition for each way through the tests. Assumes nothing.
-use mathlib.Core.Bool.{not}
-use mathlib.Core.Path.{sym, ◌∙◌, ap}
-use borrow.Author.Tests.{not-false}
-use Rattle.card.proofs.ReadLaws.{shape-get, sound-get}
+-- Refused by what every reading call tests. Assumes nothing.
+use Rattle.std.proofs.lemmas.Result.{err_from_is_err_and}
+use Rattle.card.proofs.ReadLaws.{get-refused}
 use Rattle.card_read.proofs.read_get.Goals as goal
 
-pub returns-then-not-shape : goal.returns-then-not-shape
-returns-then-not-shape c = shape-get _ c.shape_ok-shape.ensures (ap not c.if-not-shape.true) _ _ c.refusal.ensures
-
-pub sound-ok-requires : goal.sound-ok-requires
-sound-ok-requires c = sym c.shape_ok-shape.ensures ∙ not-false _ (ap not c.if-not-shape.false)
-
-pub returns-then-not-ok : goal.returns-then-not-ok
-returns-then-not-ok c = sound-get _ c.shape_ok-shape.ensures (ap not c.if-not-shape.false) c.sound-ok.ensures (ap not c.if-not-ok.true) _ _ c.refusal-then-not-ok.ensures
-
-pub read_get_in-requires : goal.read_get_in-requires
-read_get_in-requires c = (sym c.shape_ok-shape.ensures ∙ not-false _ (ap not c.if-not-shape.false), sym c.sound-ok.ensures ∙ not-false _ (ap not c.if-not-ok.false))
+pub returns-in_err-judged : goal.returns-in_err-judged
+returns-in_err-judged c = let p = err_from_is_err_and c.from_residual.result c.from_residual.ensures.1 in rw (p.1, p.2) (get-refused _ _ c.in_err-judged.ensures.refused _ _)

@@ -13,14 +13,14 @@ as_is-v-requires c = shape-limits _ _ c.geo_of-g.ensures c.requires.0
 pub word_at-requires : goal.word_at-requires
 word_at-requires c = let l = shape-length _ c.requires.0 in omega arith
 
-pub crash_counts-n-requires : goal.crash_counts-n-requires
-crash_counts-n-requires c = (shape-limits _ _ c.geo_of-g.ensures c.requires.0).t
+pub crash_counts-requires : goal.crash_counts-requires
+crash_counts-requires c = (shape-limits _ _ c.geo_of-g.ensures c.requires.0).t
 
-pub file_count-files-requires : goal.file_count-files-requires
-file_count-files-requires c = shape-laid _ _ c.geo_of-g.ensures c.requires.0
+pub file_count-requires : goal.file_count-requires
+file_count-requires c = shape-laid _ _ c.geo_of-g.ensures c.requires.0
 
-pub clear_in-free-requires : goal.clear_in-free-requires
-clear_in-free-requires c = (shape-laid _ _ c.geo_of-g.ensures c.requires.0, sound-pair _ _ c.geo_of-g.ensures c.as_is-v.ensures c.requires.0 c.requires.1)
+pub clear_in-requires : goal.clear_in-requires
+clear_in-requires c = (shape-laid _ _ c.geo_of-g.ensures c.requires.0, sound-pair _ _ c.geo_of-g.ensures c.as_is-v.ensures c.requires.0 c.requires.1)
 
 pub returns : goal.returns
-returns c = read_done _ c.requires.0 c.requires.1 _ _ c.geo_of-g.ensures c.as_is-v.ensures c.word_at.ensures c.crash_counts-n.ensures c.file_count-files.ensures c.clear_in-free.ensures
+returns c = read_done _ c.requires.0 c.requires.1 _ _ c.geo_of-g.ensures c.as_is-v.ensures c.word_at.ensures c.crash_counts.ensures c.file_count.ensures c.clear_in.ensures

@@ -9,11 +9,8 @@ geo_of-g-requires c = shape-length _ c.requires.0
 pub as_is-v-requires : goal.as_is-v-requires
 as_is-v-requires c = shape-limits _ _ c.geo_of-g.ensures c.requires.0
 
-pub file_count-n-requires : goal.file_count-n-requires
-file_count-n-requires c = shape-laid _ _ c.geo_of-g.ensures c.requires.0
-
-pub line_in-line-requires : goal.line_in-line-requires
-line_in-line-requires c = shape-laid _ _ c.geo_of-g.ensures c.requires.0
+pub line_in-requires : goal.line_in-requires
+line_in-requires c = shape-laid _ _ c.geo_of-g.ensures c.requires.0
 
 pub returns : goal.returns
-returns c = line-done _ c.requires.0 c.requires.1 _ _ c.geo_of-g.ensures c.as_is-v.ensures _ c.file_count-n.ensures c.one_if.ensures.0 c.success-answer.ensures c.line_in-line.ensures
+returns c = line-done _ c.requires.0 c.requires.1 _ _ c.geo_of-g.ensures c.as_is-v.ensures _ c.line_in.ensures

@@ -1,11 +1,13 @@
 -- The zeros first, then C and the table. Assumes nothing.
-use mathlib.Core.Bool.{not}
-use mathlib.Core.Path.{ap}
-use Rattle.card.proofs.SoundTests.{counts-no, counts-here}
+use Rattle.std.proofs.Common.{arith}
+use Rattle.std.proofs.lemmas.Grind.{common_steps}
+use Rattle.card.proofs.SoundTests.{zeros-here}
 use Rattle.card_sound.proofs.counts_ok.Goals as goal
 
-pub returns-then-not-rest : goal.returns-then-not-rest
-returns-then-not-rest c = counts-no _ _ c.zeros-rest.ensures (ap not c.if-not-rest.true)
+pub returns-then-c-crash_counts : goal.returns-then-c-crash_counts
+returns-then-c-crash_counts c =
+    let e = zeros-here c.args.g c.args.card.now c.zeros.ensures in grind (arith, common_steps)
 
-pub returns : goal.returns
-returns c = counts-here _ _ c.zeros-rest.ensures (ap not c.if-not-rest.false) c.requires.1 c.crash_counts-n.ensures c.table_ok-table.ensures
+pub returns-else-c-crash_counts : goal.returns-else-c-crash_counts
+returns-else-c-crash_counts c =
+    let e = zeros-here c.args.g c.args.card.now c.zeros.ensures in grind (arith, common_steps)

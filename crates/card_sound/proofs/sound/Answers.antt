@@ -2,11 +2,11 @@
 use Rattle.card.proofs.SoundTests.{shape-length, shape-laid, sound-of}
 use Rattle.card_sound.proofs.sound.Goals as goal
 
-pub geo_of-g-requires : goal.geo_of-g-requires
-geo_of-g-requires c = shape-length _ c.requires
+pub geo_of-requires : goal.geo_of-requires
+geo_of-requires c = shape-length _ c.requires
 
 pub sound_in-requires : goal.sound_in-requires
-sound_in-requires c = shape-laid _ _ c.geo_of-g.ensures c.requires
+sound_in-requires c = shape-laid _ _ c.geo_of.ensures c.requires
 
 pub returns : goal.returns
-returns c = sound-of _ _ c.geo_of-g.ensures c.sound_in.ensures
+returns c = sound-of _ _ c.geo_of.ensures c.sound_in.ensures

@@ -1,18 +1,30 @@
 -- Index, entries, page: the first test that fails decides. Assumes nothing.
-use mathlib.Core.Bool.{not}
-use mathlib.Core.Path.{ap}
-use Rattle.card.proofs.ViewLaws.{view-index, view-pair, view-entries, view-page, view-runs}
+use Rattle.std.proofs.Common.{◌≡◌, true, not, ap, arith}
+use Rattle.std.proofs.lemmas.Grind.{common_steps}
+use Rattle.sectors.proofs.SectorLaws.{sec-part}
+use Rattle.card.specs.Sound.{view_ok}
+use Rattle.card.proofs.ViewLaws.{index-here, view-pair, view-runs}
 use Rattle.card_sound.proofs.view_ok.Goals as goal
-
-pub returns-then-not-index : goal.returns-then-not-index
-returns-then-not-index c = view-index _ _ _ _ c.index_ok-index.ensures (ap not c.if-not-index.true)
-
-pub returns-then-not-entries : goal.returns-then-not-entries
-returns-then-not-entries c = view-entries _ _ _ _ c.index_ok-index.ensures c.entries_ok-entries.ensures (ap not c.if-not-entries.true)
+use Rattle.card_sound.proofs.view_ok.Goals.{then-index_ok, else-index_ok}
 
 pub pages_ok-requires : goal.pages_ok-requires
 pages_ok-requires c =
-    (c.requires, (view-pair _ _ _ _ c.index_ok-index.ensures (ap not c.if-not-index.false), view-runs _ _ _ _ c.entries_ok-entries.ensures (ap not c.if-not-entries.false)))
+    let e = rw (c.sector_at-index.ensures.value, ← sec-part) at c.index_ok.ensures in
+    elim c.if-index_ok.branch [
+      | then-index_ok w ↦
+          let passed : w.entries_ok.result ≡ true = cc in
+          (c.requires, (view-pair _ _ _ _ e (ap not w.if-index_ok.true), view-runs _ _ _ _ w.entries_ok.ensures (ap not passed)))
+      | else-index_ok w ↦ absurd (cc)
+    ]
 
-pub returns : goal.returns
-returns c = view-page _ _ _ _ c.index_ok-index.ensures (ap not c.if-not-index.false) c.entries_ok-entries.ensures (ap not c.if-not-entries.false) c.pages_ok.ensures
+pub returns-then-entries_ok : goal.returns-then-entries_ok
+unfolding view_ok
+returns-then-entries_ok c =
+    let e = index-here _ _ _ _ (rw (c.sector_at-index.ensures.value, ← sec-part) at c.index_ok.ensures) in
+    grind (arith, common_steps)
+
+pub returns-else-entries_ok : goal.returns-else-entries_ok
+unfolding view_ok
+returns-else-entries_ok c =
+    let e = index-here _ _ _ _ (rw (c.sector_at-index.ensures.value, ← sec-part) at c.index_ok.ensures) in
+    grind (arith, common_steps)

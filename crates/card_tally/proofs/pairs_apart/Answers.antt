@@ -12,7 +12,8 @@ use Rattle.counts.specs.Stamps.{table_in}
 use Rattle.directory.specs.Directory.{entries_of}
 use Rattle.directory.proofs.DirectoryLaws.{entries-lt, entries-le}
 use Rattle.card.specs.Files.{run_at}
-use Rattle.card.proofs.TallyTests.{run-below, empty-row, empty-rising, row-stop, row-go, row-rising}
+use Rattle.card.proofs.TallyTests.{empty-row, empty-rising, row-stop, row-go, row-rising}
+use Rattle.card_tally.proofs.Runs.{run-room}
 use Rattle.card_tally.proofs.pairs_apart.Goals as goal
 use Rattle.card_tally.proofs.pairs_apart.Goals.{then-low-r, else-low-r}
 
@@ -36,28 +37,12 @@ loop-i-preserved-then-r-eq0 c =
     (omega arith, now-at.invariant.1, empty-row a.g tab es P.1 _ _ next l _ c.run_at-r.ensures done z, empty-rising a.g tab es P.1 _ _ next l _ c.run_at-r.ensures done _ _ z now-at.invariant.3)
 
 pub overflow_add-r : goal.overflow_add-r
-unfolding run_at
-overflow_add-r c =
-    let a = c.args in
-    let P = c.requires in
-    let tab = table_in a.g a.v (sec a.card.now) in
-    let es = entries_of a.g (sec a.card.now) in
-    let now-at = c.loop-i in
-    let next : now-at.i ≡ now-at.i - 1 + 1 = omega (arith, c.loop-i-test.true) in
-    let l = entries-lt a.g a.card.now (now-at.i - 1) (omega (arith, now-at.invariant.0, now-at.invariant.1, c.loop-i-test.true)) in
-    omega (arith, P.0.s, run-below a.g tab es P.1 _ l c.run_at-r.ensures)
+overflow_add-r c = omega (arith, c.requires.0.s, run-room _ _ _ c.requires.1 (omega arith) c.run_at-r.ensures)
 
 pub parted_from-requires : goal.parted_from-requires
-unfolding run_at
 parted_from-requires c =
-    let a = c.args in
-    let P = c.requires in
-    let tab = table_in a.g a.v (sec a.card.now) in
-    let es = entries_of a.g (sec a.card.now) in
-    let now-at = c.loop-i in
-    let next : now-at.i ≡ now-at.i - 1 + 1 = omega (arith, c.loop-i-test.true) in
-    let l = entries-lt a.g a.card.now (now-at.i - 1) (omega (arith, now-at.invariant.0, now-at.invariant.1, c.loop-i-test.true)) in
-    (P.0, (run-below a.g tab es P.1 _ l c.run_at-r.ensures, (elim c.if-low-r.branch [ then-low-r w ↦ omega (arith, w.rest-is) | else-low-r w ↦ omega (arith, w.rest-is) ], P.1)))
+    let o = c.loop-i.invariant in
+    (c.requires.0, (run-room _ _ _ c.requires.1 (omega arith) c.run_at-r.ensures, (elim c.if-low-r.branch [ then-low-r w ↦ omega (arith, w.rest-is) | else-low-r w ↦ omega (arith, o.1, w.rest-is) ], c.requires.1)))
 
 pub returns-then-not-parted_from : goal.returns-then-not-parted_from
 unfolding run_at

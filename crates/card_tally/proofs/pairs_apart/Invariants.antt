@@ -13,6 +13,3 @@ use Rattle.card_tally.proofs.pairs_apart.Given as goal
 
 abbrev pub invariant-loop-i : goal.invariant-loop-i
 invariant-loop-i l = (l.i ≤ l.rest) × (l.rest ≤ 4 * l.g.d) × (pairwise (parted_in (table_in l.g l.v (sec l.card))) (drop l.i (entries_of l.g (sec l.card))) ≡ true) × Rising (table_in l.g l.v (sec l.card)) (entries_of l.g (sec l.card)) l.i l.rest l.low
-
-abbrev pub decreases-loop-i : goal.decreases-loop-i
-decreases-loop-i l = l.i

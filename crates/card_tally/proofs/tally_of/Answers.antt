@@ -13,71 +13,57 @@ use Rattle.directory.proofs.DirectoryLaws.{entries-lt, entries-le}
 use Rattle.apages.specs.Index.{page_in}
 use Rattle.card.specs.Files.{run_at}
 use Rattle.card.specs.Tally.{held_by}
-use Rattle.card.proofs.TallyTests.{run-below, run-paged, held-here, sectors-next, sectors-end}
+use Rattle.card.proofs.TallyTests.{run-paged, held-here, sectors-next, sectors-end}
 use Rattle.card_order.proofs.Turns.{entry-held, walk_none, walk-next}
 use borrow.Author.Rules.{rules}
 use Rattle.card_tally.proofs.Pages.{kept-room, kept-held}
+use Rattle.card_tally.proofs.Runs.{run-room}
 use Rattle.card_tally.proofs.tally_of.Goals as goal
 
-pub page_at-first-requires : goal.page_at-first-requires
-page_at-first-requires c = (c.requires.0, omega (arith, c.requires.0.past, dir-is c.args.g))
+pub page_at-requires : goal.page_at-requires
+page_at-requires c = (c.requires.0, omega (arith, c.requires.0.past, dir-is c.args.g))
 
 pub loop-j-init : goal.loop-j-init
-loop-j-init c = (search rules, refl, omega arith, search rules, walk_none _ _ _ refl refl, record { below = omega (arith, c.requires.0.past, dir-is c.args.g); shown = c.page_at-first.ensures })
+loop-j-init c = (refl, omega arith, search rules, walk_none _ _ _ refl refl, record { below = omega (arith, c.requires.0.past, dir-is c.args.g); shown = c.page_at.ensures })
 
 pub page_of-page-requires : goal.page_of-page-requires
-unfolding run_at
 page_of-page-requires c =
-    let es = entries_of c.args.g (sec c.args.card.now) in
-    let l = entries-lt c.args.g c.args.card.now _ c.loop-j-test.true in
-    let below = run-below c.args.g _ es c.requires.1.1 _ l c.run_at-r.ensures in
-    (c.requires.0, (omega (arith, below, pages-cover c.args.g), c.loop-j.invariant.5))
+    let below = run-room _ _ _ c.requires.1.1 c.loop-j-test.true c.run_at-r.ensures in
+    (c.requires.0, (omega (arith, below, pages-cover c.args.g), c.loop-j.invariant.4))
 
 pub page_held-set-requires : goal.page_held-set-requires
 unfolding run_at
 page_held-set-requires c =
-    let es = entries_of c.args.g (sec c.args.card.now) in
     let l = entries-lt c.args.g c.args.card.now _ c.loop-j-test.true in
-    let below = run-below c.args.g _ es c.requires.1.1 _ l c.run_at-r.ensures in
-    (kept-room c.args.g _ _ c.requires.0 c.requires.1.0 _ c.page_of-page.ensures.0, run-paged c.args.g _ es c.requires.1.1 _ l c.run_at-r.ensures)
+    (kept-room _ _ _ c.requires.0 c.requires.1.0 _ c.page_of-page.ensures.0, run-paged _ _ _ c.requires.1.1 _ l c.run_at-r.ensures)
 
 pub overflow_add-sectors : goal.overflow_add-sectors
-unfolding run_at
-overflow_add-sectors c =
-    let es = entries_of c.args.g (sec c.args.card.now) in
-    let l = entries-lt c.args.g c.args.card.now _ c.loop-j-test.true in
-    let below = run-below c.args.g _ es c.requires.1.1 _ l c.run_at-r.ensures in
-    omega (arith, c.requires.0.s, c.requires.0.d, below)
+overflow_add-sectors c = omega (arith, c.requires.0.s, c.requires.0.d, run-room _ _ _ c.requires.1.1 c.loop-j-test.true c.run_at-r.ensures)
 
 pub step-own-requires : goal.step-own-requires
-unfolding run_at
 step-own-requires c =
-    let es = entries_of c.args.g (sec c.args.card.now) in
-    let l = entries-lt c.args.g c.args.card.now _ c.loop-j-test.true in
-    let below = run-below c.args.g _ es c.requires.1.1 _ l c.run_at-r.ensures in
-    let own = c.loop-j.invariant.4 in
-    (omega (arith, c.requires.0.s, below), omega (arith, c.requires.0.s, own.below, own.few))
+    let own = c.loop-j.invariant.3 in
+    (omega (arith, c.requires.0.s, run-room _ _ _ c.requires.1.1 c.loop-j-test.true c.run_at-r.ensures), omega (arith, c.requires.0.s, own.below, own.few))
 
 pub loop-j-preserved : goal.loop-j-preserved
 unfolding run_at
 loop-j-preserved c =
+    let e = c.run_at-r.ensures in
     let es = entries_of c.args.g (sec c.args.card.now) in
     let l = entries-lt c.args.g c.args.card.now _ c.loop-j-test.true in
-    let below = run-below c.args.g _ es c.requires.1.1 _ l c.run_at-r.ensures in
+    let below = run-room _ _ _ c.requires.1.1 c.loop-j-test.true e in
     let tab = table_in c.args.g c.args.v (sec c.args.card.now) in
     let m = page_in c.args.g tab (sec c.args.card.now) in
     let o = c.loop-j in
-    let e = c.run_at-r.ensures in
     let q = c.page_of-page in
     let run = entry-held c.args.g tab es c.requires.1.1 _ l e in
     let paged = run-paged c.args.g tab es c.requires.1.1 _ l e in
     let bits = kept-held c.args.g tab c.args.card.now c.requires.0 c.requires.1.0 _ q.ensures.0 _ _ q.ensures.1 paged c.page_held-set.ensures in
     let here = held-here tab m (get_or es o.j []) e bits in (
-      omega arith,
-      seen-go (held_by tab m) es [] o.j o.set _ l here o.invariant.1,
+      seen-go (held_by tab m) es [] o.j o.set _ l here o.invariant.0,
       omega (arith, sectors-next tab es _ l e),
       omega (arith, c.requires.0.s, below),
-      rw c.step-own.ensures (walk-next _ _ _ _ o.invariant.4 run),
+      rw c.step-own.ensures (walk-next _ _ _ _ o.invariant.3 run),
       q.ensures.0,
     )
 
@@ -86,4 +72,4 @@ returns c =
     let es = entries_of c.args.g (sec c.args.card.now) in
     let l = entries-le _ _ _ c.loop-j-test.false in
     let o = c.loop-j in
-    (seen_end _ es [] _ _ l o.invariant.1, (omega (arith, sectors-end (table_in c.args.g c.args.v (sec c.args.card.now)) es _ l), (omega (arith, c.requires.0.d), o.invariant.4)))
+    (seen_end _ es [] _ _ l o.invariant.0, (omega (arith, sectors-end (table_in c.args.g c.args.v (sec c.args.card.now)) es _ l), (omega (arith, c.requires.0.d), o.invariant.3)))

@@ -2,7 +2,7 @@
 -- runs of the files, and the page kept is one that the view shows. Assumes nothing.
 use mathlib.Core.Path.{◌≡◌}
 use mathlib.Core.Bool.{◌&&◌}
-use Prim.Native.Nat.{◌+◌, ◌-◌, ◌*◌, ◌≤◌}
+use Prim.Native.Nat.{◌+◌, ◌*◌, ◌≤◌}
 use lib.ListN.{drop}
 use Rattle.words.specs.Lists.{every}
 use Rattle.sectors.specs.Sectors.{sec}
@@ -17,9 +17,6 @@ use Rattle.card_tally.proofs.tally_of.Given as goal
 
 abbrev pub invariant-loop-j : goal.invariant-loop-j
 invariant-loop-j l =
-    (l.j ≤ 4 * l.g.d) × (every (held_by (table_in l.g l.v (sec l.card)) (page_in l.g (table_in l.g l.v (sec l.card)) (sec l.card))) (entries_of l.g (sec l.card)) ≡ (l.set && every (held_by (table_in l.g l.v (sec l.card)) (page_in l.g (table_in l.g l.v (sec l.card)) (sec l.card))) (drop l.j (entries_of l.g (sec l.card)))))
+    (every (held_by (table_in l.g l.v (sec l.card)) (page_in l.g (table_in l.g l.v (sec l.card)) (sec l.card))) (entries_of l.g (sec l.card)) ≡ (l.set && every (held_by (table_in l.g l.v (sec l.card)) (page_in l.g (table_in l.g l.v (sec l.card)) (sec l.card))) (drop l.j (entries_of l.g (sec l.card)))))
     × (l.sectors + sectors_of (files_of (table_in l.g l.v (sec l.card)) (drop l.j (entries_of l.g (sec l.card)))) ≡ sectors_of (files_of (table_in l.g l.v (sec l.card)) (entries_of l.g (sec l.card)))) × (l.sectors ≤ 65536 * l.j)
     × Walked l.g (files_of (table_in l.g l.v (sec l.card)) (entries_of l.g (sec l.card))) l.own × IsShown l.g (table_in l.g l.v (sec l.card)) (sec l.card) l.page
-
-abbrev pub decreases-loop-j : goal.decreases-loop-j
-decreases-loop-j l = 4 * l.g.d - l.j

@@ -1,4 +1,4 @@
--- The loop's invariant: the answer is what was seen so far, and that for what is left. Assumes nothing.
+-- Each word that is looked at goes over to what was seen; those that are not are 0. Assumes nothing.
 use mathlib.Core.Path.{refl, ap, ◌∙◌}
 use native.Mathlib.Omega.{arith}
 use lib.Dec.{leb}
@@ -11,18 +11,11 @@ use Rattle.counts.proofs.TableLaws.{table-lt, table-le}
 use Rattle.counts_table.proofs.OneWalk.{walk_end}
 use Rattle.counts_table.proofs.table_max.Goals as goal
 
-pub loop-i-init : goal.loop-i-init
-loop-i-init c = (omega arith, refl)
-
 pub loop-i-preserved : goal.loop-i-preserved
-loop-i-preserved c = let l = c.loop-i in
-    let z = c in
-    let tab = table_of z.args.g (sec z.args.card.now) in
+loop-i-preserved c =
     let e = ap (leb c.word_in.result) c.top-top.ensures ∙ ap word_max c.word_in.ensures in
-    (omega arith, seen-go word_max tab 0 l.i l.ok _ (table-lt _ _ z.requires.0 l.i (omega (arith, counted z.args.g refl, c.loop-i-test.true, c.judged-n.ensures.0))) e l.invariant.1)
+    seen-go word_max _ 0 c.loop-i.i c.loop-i.ok _ (table-lt _ _ c.requires.0 _ (omega (arith, counted c.args.g refl, c.judged-i-end.ensures.0))) e c.loop-i.invariant
 
 pub returns : goal.returns
-returns c = let l = c.loop-i in
-    let z = c in
-    let tab = table_of z.args.g (sec z.args.card.now) in
-    walk_end tab (g_n z.args.g) z.args.c.0 l.i _ l.ok z.args.past (table-le _ _ z.requires.0 (g_n z.args.g) (omega (arith, counted z.args.g refl))) z.requires.1 c.judged-n.ensures.1 (omega arith) l.invariant.1
+returns c =
+    walk_end (table_of c.args.g (sec c.args.card.now)) (g_n c.args.g) c.args.c.0 c.loop-i.i _ c.loop-i.ok c.args.past (table-le _ _ c.requires.0 _ (omega (arith, counted c.args.g refl))) c.requires.1 c.judged-i-end.ensures.1 (omega arith) c.loop-i.invariant

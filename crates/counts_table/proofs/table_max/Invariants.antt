@@ -1,7 +1,6 @@
--- The loop's invariant: the answer is what was seen so far, and that for what is left. Assumes nothing.
+-- The answer is what was seen so far, and that for what is left. Assumes nothing.
 use mathlib.Core.Path.{◌≡◌}
 use mathlib.Core.Bool.{◌&&◌}
-use Prim.Native.Nat.{◌-◌, ◌≤◌}
 use lib.ListN.{drop}
 use Rattle.words.specs.Lists.{every}
 use Rattle.sectors.specs.Sectors.{sec}
@@ -10,7 +9,4 @@ use Rattle.counts.specs.Stamps.{word_max}
 use Rattle.counts_table.proofs.table_max.Given as goal
 
 abbrev pub invariant-loop-i : goal.invariant-loop-i
-invariant-loop-i l = (l.i ≤ l.n) × (every word_max (table_of l.g (sec l.card)) ≡ (l.ok && every word_max (drop l.i (table_of l.g (sec l.card)))))
-
-abbrev pub decreases-loop-i : goal.decreases-loop-i
-decreases-loop-i l = l.n - l.i
+invariant-loop-i l = every word_max (table_of l.g (sec l.card)) ≡ (l.ok && every word_max (drop l.i (table_of l.g (sec l.card))))

@@ -1,7 +1,6 @@
--- The loop's invariant: the answer is what was seen so far, and that for what is left. Assumes nothing.
+-- The answer is what was seen so far, and that for what is left. Assumes nothing.
 use mathlib.Core.Path.{◌≡◌}
 use mathlib.Core.Bool.{◌&&◌}
-use Prim.Native.Nat.{◌-◌, ◌≤◌}
 use lib.ListN.{drop}
 use Rattle.words.specs.Lists.{every, is_zero}
 use Rattle.sectors.specs.Sectors.{sec}
@@ -9,7 +8,4 @@ use Rattle.counts.specs.Geometry.{table_of}
 use Rattle.counts_table.proofs.zero_past.Given as goal
 
 abbrev pub invariant-loop-i : goal.invariant-loop-i
-invariant-loop-i l = (l.i ≤ l.n) × (every is_zero (drop l.initial.i (table_of l.g (sec l.card))) ≡ (l.ok && every is_zero (drop l.i (table_of l.g (sec l.card)))))
-
-abbrev pub decreases-loop-i : goal.decreases-loop-i
-decreases-loop-i l = l.n - l.i
+invariant-loop-i l = every is_zero (drop l.initial.i (table_of l.g (sec l.card))) ≡ (l.ok && every is_zero (drop l.i (table_of l.g (sec l.card))))

@@ -1,7 +1,6 @@
 -- The loop's invariant: the entries passed stand apart, and their names are marked. Assumes nothing.
 use mathlib.Core.Path.{◌≡◌}
 use mathlib.Core.Bool.{true}
-use Prim.Native.Nat.{◌*◌, ◌≤◌}
 use lib.ListN.{length, drop}
 use Rattle.words.specs.Lists.{pairwise}
 use Rattle.counts.specs.Stamps.{table_in}
@@ -11,7 +10,4 @@ use Rattle.directory_rules.specs.Inner.{Known}
 use Rattle.directory_rules.proofs.names_ok.Given as goal
 
 abbrev pub invariant-loop-i : goal.invariant-loop-i
-invariant-loop-i l = (l.i ≤ 4 * l.g.d) × (length l.marks ≡ 128) × (pairwise (apart (table_in l.g l.v (sec l.card)) (table_in l.g l.w (sec l.card))) (drop l.i (entries_of l.g (sec l.card))) ≡ true) × Known (table_in l.g l.v (sec l.card)) (table_in l.g l.w (sec l.card)) (entries_of l.g (sec l.card)) l.i l.marks
-
-abbrev pub decreases-loop-i : goal.decreases-loop-i
-decreases-loop-i l = l.i
+invariant-loop-i l = (length l.marks ≡ 128) × (pairwise (apart (table_in l.g l.v (sec l.card)) (table_in l.g l.w (sec l.card))) (drop l.i (entries_of l.g (sec l.card))) ≡ true) × Known (table_in l.g l.v (sec l.card)) (table_in l.g l.w (sec l.card)) (entries_of l.g (sec l.card)) l.i l.marks

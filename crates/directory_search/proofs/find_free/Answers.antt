@@ -1,30 +1,10 @@
--- `directory_search::find_free` meets its contract: in the loop the answer is that for what is left. Assumes nothing.
-use mathlib.Core.Path.{refl}
-use mathlib.Core.List.{[]}
-use native.Mathlib.Omega.{arith}
+-- The walk over the entries stops at the first that passes. Assumes nothing.
+use borrow.Author.Rules.{rules}
+use Rattle.sectors.specs.Sectors.{sec}
 use Rattle.counts.specs.Stamps.{table_in}
 use Rattle.directory.specs.Directory.{gone}
-use Rattle.directory.proofs.DirectoryLaws.{entries-lt, entries-le, entry-test}
-use Rattle.sectors.specs.Sectors.{sec}
-use Rattle.words.proofs.EveryLaws.{first-stop, first-go, first-end}
+use Rattle.directory.proofs.EntryRuns.{first-of}
 use Rattle.directory_search.proofs.find_free.Goals as goal
 
-pub loop-j-init : goal.loop-j-init
-loop-j-init c = (omega arith, refl)
-
-pub returns-then-is_gone : goal.returns-then-is_gone
-returns-then-is_gone c =
-    let a = c.args in
-    let h = c.loop-j-test.true in
-    let e = entry-test a.g a.card.now _ _ (gone (table_in a.g a.v (sec a.card.now)) (table_in a.g a.w (sec a.card.now))) c.place_of-at.ensures h c.is_gone.ensures in
-    first-stop _ _ [] _ _ (entries-lt _ _ _ h) e c.if-is_gone.true c.loop-j.invariant.1
-
-pub loop-j-preserved : goal.loop-j-preserved
-loop-j-preserved c =
-    let a = c.args in
-    let h = c.loop-j-test.true in
-    let e = entry-test a.g a.card.now _ _ (gone (table_in a.g a.v (sec a.card.now)) (table_in a.g a.w (sec a.card.now))) c.place_of-at.ensures h c.is_gone.ensures in
-    (omega arith, first-go _ _ [] _ _ (entries-lt _ _ _ h) e c.if-is_gone.false c.loop-j.invariant.1)
-
 pub returns : goal.returns
-returns c = first-end _ _ [] _ (entries-le _ _ _ c.loop-j-test.false) c.loop-j.invariant.1
+returns c = let a = c.args in first-of (gone (table_in a.g a.v (sec a.card.now)) (table_in a.g a.w (sec a.card.now))) c.entries.ensures.gives (λ x b q k. search rules) c.position.ensures.ran

@@ -1,11 +1,12 @@
--- `entries::fill_entry` meets its contract: its parts put one after the other. Assumes nothing.
-use mathlib.Core.Path.{◌≡◌, refl}
+-- Its parts are put one after the other. Assumes nothing.
+use mathlib.Core.Path.{◌≡◌, ◌∙◌}
+use Prim.Native.Nat.{ℕ, ◌-◌}
 use native.Mathlib.Omega.{arith}
-use lib.ListN.{length}
+use lib.ListN.{length, take, drop, replicate, length-take, length-drop, length-replicate}
 use Rattle.entries.proofs.CodecLaws.{version_bytes-length}
 use Rattle.entries.specs.Entries.{entry_bytes}
 use Rattle.words.specs.Bytes.{word_bytes}
-use Rattle.words.proofs.SpliceLaws.{Put, put_then, put_whole}
+use Rattle.words.proofs.SpliceLaws.{Put, put_then, put_whole, part-back}
 use Rattle.words.proofs.WordLaws.{word_bytes-length}
 use Rattle.entries.proofs.fill_entry.Goals as goal
 
@@ -19,5 +20,7 @@ returns c =
     let p₄ = put_then _ _ 32 p₃ c.put_bytes.ensures l in
     let p₅ = put_then _ _ 16 p₄ c.put_version.ensures (version_bytes-length _) in
     let p₆ = put_then _ _ 16 p₅ c.put_version-2.ensures (version_bytes-length _) in
-    let p₇ = put_then _ _ 52 p₆ c.put_bytes-2.ensures refl in
+    let n : length (take (length c.put_version-2.new.s - 76) (drop 76 c.put_version-2.new.s)) ≡ 52 = simp (length-take, length-drop) (omega arith) in
+    let z : c.fill.new.self ≡ replicate 52 0 = c.fill.ensures.after (λ y h. h) ∙ rw n in
+    let p₇ = put_then _ _ 52 p₆ (rw z (part-back _ _ 76 _ (omega arith) (omega arith) (omega arith))) (length-replicate {A = ℕ} 52 0) in
     put_whole p₇ c.requires

@@ -1,16 +1,11 @@
--- The loop's invariant: the hash goes on over the bytes that are left. Assumes nothing.
-use mathlib.Core.Path.{refl, sym, ◌∙◌}
+-- The fold is the hash. Assumes nothing.
+use mathlib.Core.Path.{◌≡◌, ◌∙◌}
 use borrow.Author.Rules.{rules}
-use Rattle.entries_names.specs.Inner.{hash_of}
-use Rattle.entries_names.proofs.NameHash.{hash-next, hash-end}
+use Rattle.std.specs.Prelude.{fold}
+use Rattle.entries_names.specs.Inner.{hash_step, hash_of}
+use Rattle.entries_names.proofs.NameHash.{hash_fold}
 use Rattle.entries_names.proofs.hash.Goals as goal
 
-pub loop-i-init : goal.loop-i-init
-unfolding hash_of
-loop-i-init c = (search rules, refl)
-
-pub loop-i-preserved : goal.loop-i-preserved
-loop-i-preserved c = let l = c.loop-i in (search rules, l.invariant.1 ∙ hash-next _ _ _ c.loop-i-test.true c.hash_step-h.ensures)
-
 pub returns : goal.returns
-returns c = sym (c.loop-i.invariant.1 ∙ hash-end _ _ _ c.loop-i-test.false)
+unfolding hash_of
+returns c = let e : c.fold.result ≡ fold hash_step 2166136261 c.args.n.now = search rules in e ∙ hash_fold _ c.args.n.now

@@ -1,7 +1,12 @@
--- `entries_rules::entry_ok` meets its contract: the answers to its parts. Assumes nothing.
+-- The answers to its parts. Assumes nothing.
+use native.Mathlib.Omega.{arith}
 use Rattle.entries_rules.proofs.PassHere.{entry_here}
 use Rattle.entries_rules.proofs.entry_ok.Goals as goal
 
-pub returns : goal.returns
-returns c =
-    entry_here _ _ _ _ c.stamp_of-s.ensures c.alive-live.ensures c.new_or_old-at.ensures.0 c.stamp_ok-stamp.ensures c.below-below.ensures c.zeros-rest.ensures c.shown_ok.ensures
+pub returns-then-zeros : goal.returns-then-zeros
+returns-then-zeros c =
+    let e = entry_here c.args.g c.args.bound.0 _ _ c.stamp_of-s.ensures c.alive-live.ensures c.new_or_old-at.ensures.0 in grind arith
+
+pub returns-else-zeros : goal.returns-else-zeros
+returns-else-zeros c =
+    let e = entry_here c.args.g c.args.bound.0 _ _ c.stamp_of-s.ensures c.alive-live.ensures c.new_or_old-at.ensures.0 in grind arith

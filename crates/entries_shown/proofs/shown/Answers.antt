@@ -6,4 +6,4 @@ use Rattle.entries_shown.proofs.shown.Goals as goal
 
 pub returns : goal.returns
 unfolding shown
-returns c = c.version_of.ensures ∙ ap version_of (shown-here _ _ c.stamp_of-s.ensures c.alive.ensures c.new_or_old-at.ensures.0)
+returns c = c.version_of.ensures ∙ ap version_of (shown-here _ _ c.stamp_of.ensures c.alive-live.ensures c.new_or_old-at.ensures.0)

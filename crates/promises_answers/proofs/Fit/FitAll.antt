@@ -1,4 +1,5 @@
 -- What put, remove and sync leave when they give 0 fits. Assumes nothing.
+use Rattle.std.specs.Prelude.{Some}
 use mathlib.Core.Path.{◌≡◌, refl, sym, ◌∙◌}
 use mathlib.Core.Bool.{false}
 use mathlib.Core.List.{List, []}
@@ -6,7 +7,6 @@ use Prim.Native.Nat.{ℕ}
 use native.Mathlib.Omega.{arith}
 use lib.ListN.{length}
 use lib.Seq.{get_or-set_same}
-use Rattle.words.specs.declared.Found.TheVariants.{At}
 use Rattle.words.specs.Lists.{first_at}
 use Rattle.sectors.specs.declared.Sector.{Sector}
 use Rattle.sectors.specs.Sectors.{sec}
@@ -62,7 +62,7 @@ unfolding remove_work
 remove-fits s work n j a h =
     let p = remove-inv s work n j a h in
     let F = fit-inv s work p.fit in
-    let e : first_at (named (tp_of s work) (tp_of s work) n) 0 (entries_of s.geo (sec work)) ≡ At j = rw (present-live s (sec work) p.live) at p.entry in
+    let e : first_at (named (tp_of s work) (tp_of s work) n) 0 (entries_of s.geo (sec work)) ≡ Some j = rw (present-live s (sec work) p.live) at p.entry in
     fit-edit s j 0 0 Absent work n []
     (record {
       ready = remove-ready s work (sec work) refl n j a h;

@@ -1,4 +1,5 @@
 -- An image with no stamp of the running stretch fits, and shows what it is: after a mount, a sync, and when worn. Assumes nothing.
+use Rattle.std.specs.Prelude.{Some}
 use mathlib.Core.Path.{◌≡◌, refl, sym, ap, ◌∙◌}
 use mathlib.Core.Bool.{Bool, true, false}
 use mathlib.Core.List.{List, [], ◌∷◌}
@@ -28,7 +29,6 @@ use Rattle.card.specs.Reading.{files_in}
 use Rattle.card.specs.Sound.{view_ok}
 use Rattle.card.proofs.AgreeLaws.{view-mono}
 use Rattle.session.specs.declared.Opened.{Opened}
-use Rattle.session.specs.declared.Session.TheVariants.{Open}
 use Rattle.session.specs.Views.{present_table, cut_table, present_page, cut_page, present_files, session_files}
 use Rattle.session.specs.Fits.{head_ok, word_ok, stamp_at_most, entry_at_most, index_at_most}
 use Rattle.session.proofs.FitLaws.{Fit, at_most, at-most-intro, present-live, present-worn, fit-table, index-most, index-most-intro}
@@ -205,7 +205,7 @@ module _ (s : Opened) (img : List ℕ) (R : Rest s img) where
   rest-cut b = rw (same-geo b)
 
   -- what such a session shows is what the image shows
-  pub rest-shows : (b : Bool) → shown_in (Open (grown b s)) img ≡ items img (files_in g (sec img))
+  pub rest-shows : (b : Bool) → shown_in (Some (grown b s)) img ≡ items img (files_in g (sec img))
   unfolding shown_in session_files present_files files_in
   rest-shows true = rw worn-table (unfold grown in refl)
   rest-shows false = rw next-table (unfold grown in rw (files-eq s T T' agree (entries_of g (sec img)) R.stamps))

@@ -1,4 +1,5 @@
 -- The numbers of put, remove and get, a session's and a card's. Assumes nothing.
+use Rattle.std.specs.Prelude.{Option, Some, None}
 use mathlib.Core.Path.{◌≡◌, refl, sym, ap, ◌∙◌}
 use mathlib.Core.Bool.{true, false}
 use mathlib.Core.List.{List, [], ◌∷◌}
@@ -8,8 +9,6 @@ use native.Mathlib.Omega.{arith}
 use borrow.Author.Tests.{leb-true, leb-false}
 use lib.Dec.{leb}
 use lib.ListN.{length, get_or}
-use Rattle.words.specs.declared.Found.{Found}
-use Rattle.words.specs.declared.Found.TheVariants.{At, Nowhere}
 use Rattle.words.specs.Lists.{pairwise, first_at, or_else}
 use Rattle.words.proofs.FirstLaws.{not_at, found_at, found_none}
 use Rattle.sectors.specs.Sectors.{sec}
@@ -25,8 +24,7 @@ use Rattle.card.specs.Sound.{sound}
 use Rattle.card.specs.Reading.{read_get}
 use Rattle.card.proofs.MeansParts.{name-means}
 use Rattle.session.specs.declared.Opened.{Opened}
-use Rattle.session.specs.declared.Session.{Session}
-use Rattle.session.specs.declared.Session.TheVariants.{Closed, Open}
+use Rattle.session.specs.Session.{Session}
 use Rattle.session.specs.Views.{present_table, cut_table}
 use Rattle.session.specs.Fits.{fits}
 use Rattle.session.proofs.FitLaws.{fit-inv}
@@ -43,25 +41,25 @@ module _ (g : Geo) (tab img n : List ℕ) where
   abbrev ps : List (List ℕ)
   ps = entries_of g (sec img)
 
-  pub no-file : first_at (named tab tab n) 0 ps ≡ Nowhere → NoFile g tab img n
+  pub no-file : first_at (named tab tab n) 0 ps ≡ None → NoFile g tab img n
   no-file e i l s = clash (named-intro tab tab n (get_or ps i []) (inl s.0) s.1) (found_none (named tab tab n) [] 0 ps e i l)
 
-  pub found-shows : (j : ℕ) → first_at (named tab tab n) 0 ps ≡ At j → (j < length ps) × Shows tab n (get_or ps j [])
+  pub found-shows : (j : ℕ) → first_at (named tab tab n) 0 ps ≡ Some j → (j < length ps) × Shows tab n (get_or ps j [])
   found-shows j e =
       let (l, t) = found_at (named tab tab n) [] ps j e in
       let (a, b) = named-true tab tab n (get_or ps j []) t in
       (l, (⊎_elim (λ q. q) (λ q. q) a, b))
 
-  pub a-file : (j : ℕ) → first_at (named tab tab n) 0 ps ≡ At j → ¬ NoFile g tab img n
+  pub a-file : (j : ℕ) → first_at (named tab tab n) 0 ps ≡ Some j → ¬ NoFile g tab img n
   a-file j e none = let (l, s) = found-shows j e in none j l s
 
   -- ---- 10: no two entries show the name, so one length is meant
   module _ (tc out : List ℕ) (alone : pairwise (apart tab tc) ps ≡ true) where
-    too_long : (j : ℕ) → first_at (named tab tab n) 0 ps ≡ At j → leb (run_at g tab img j).bytes (length out) ≡ false → TooLong g tab img n out
+    too_long : (j : ℕ) → first_at (named tab tab n) 0 ps ≡ Some j → leb (run_at g tab img j).bytes (length out) ≡ false → TooLong g tab img n out
     unfolding run_at
     too_long j e h = let (l, s) = found-shows j e in (j, l, s, leb-false _ _ h)
 
-    fits_out : (j : ℕ) → first_at (named tab tab n) 0 ps ≡ At j → leb (run_at g tab img j).bytes (length out) ≡ true → ¬ TooLong g tab img n out
+    fits_out : (j : ℕ) → first_at (named tab tab n) 0 ps ≡ Some j → leb (run_at g tab img j).bytes (length out) ≡ true → ¬ TooLong g tab img n out
     unfolding run_at
     fits_out j e h t =
         let (l, s) = found-shows j e in
@@ -84,8 +82,8 @@ module _ (g : Geo) (tab img n : List ℕ) where
 
 pub of-get : (s : Session) (work n out : List ℕ) → Exactly (get s work n out).answer.number (get_rows s work n out)
 unfolding get refused number_of
-of-get Closed work n out = exactly {rows = get_rows Closed work n out} {p = refuse 4} refl closed-row
-of-get (Open s) work n out =
+of-get None work n out = exactly {rows = get_rows None work n out} {p = refuse 4} refl closed-row
+of-get (Some s) work n out =
     exactly (get-number s.geo (present_table s (sec work)) work n out _)
     (open_row s (means-row 2 (fits s work) _ _ (fits-mean s work)
     (λ f. get_rows_lem s.geo (present_table s (sec work)) work n (table_of s.geo (sec work)) out (fit-inv s work f).alone)))
@@ -104,8 +102,8 @@ of-read-get img n out =
 
 pub of-remove : (s : Session) (work n : List ℕ) → Exactly (remove s work n).answer.number (remove_rows s work n)
 unfolding remove refused done number_of remove_plan
-of-remove Closed work n = exactly {rows = remove_rows Closed work n} {p = refuse 4} refl closed-row
-of-remove (Open s) work n =
+of-remove None work n = exactly {rows = remove_rows None work n} {p = refuse 4} refl closed-row
+of-remove (Some s) work n =
     exactly (ended-number (λ (r : Changed). r.answer.number) _ _ (λ k. refl) (λ j a. refl) (remove_plan s work n))
     (open_row s (means-row 2 (fits s work) _ _ (fits-mean s work) (λ f. not-row 9 s.worn _ _ (λ w. means-row 5 (good_name n) _ _ (name-means n)
     (λ e. need-row 6 (first_at (named (present_table s (sec work)) (present_table s (sec work)) n) 0 (entries_of s.geo (sec work))) _ _ _
@@ -123,13 +121,13 @@ module _ (s : Opened) (work n : List ℕ) where
   abbrev qs : List (List ℕ)
   qs = entries_of s.geo (sec work)
 
-  pub no-entry : place_in s work n ≡ Nowhere → NoEntry s work n
+  pub no-entry : place_in s work n ≡ None → NoEntry s work n
   unfolding place_in put_place
   no-entry e = go (first_at (named tp tc n) 0 qs) refl e
     where
-      go : (o : Found) → first_at (named tp tc n) 0 qs ≡ o → or_else o (first_at (gone tp tc) 0 qs) ≡ Nowhere → NoEntry s work n
-      go (At j) f h = unfold or_else in not_at h
-      go Nowhere f h = λ i l.
+      go : (o : Option ℕ) → first_at (named tp tc n) 0 qs ≡ o → or_else o (first_at (gone tp tc) 0 qs) ≡ None → NoEntry s work n
+      go (Some j) f h = unfold or_else in not_at h
+      go None f h = λ i l.
           let a : named tp tc n (get_or qs i []) ≡ false = found_none (named tp tc n) [] 0 qs f i l in
           let b : gone tp tc (get_or qs i []) ≡ false = found_none (gone tp tc) [] 0 qs (unfold or_else in h) i l in (
             λ q. clash (named-intro tp tc n (get_or qs i []) (inl q.0) q.1) a,
@@ -137,15 +135,15 @@ module _ (s : Opened) (work n : List ℕ) where
             λ q. clash (gone-intro tp tc (get_or qs i []) q.0 q.1) b,
           )
 
-  pub an-entry : (j : ℕ) → place_in s work n ≡ At j → ¬ NoEntry s work n
+  pub an-entry : (j : ℕ) → place_in s work n ≡ Some j → ¬ NoEntry s work n
   unfolding place_in put_place
   an-entry j e none = go (first_at (named tp tc n) 0 qs) refl e
     where
-      go : (o : Found) → first_at (named tp tc n) 0 qs ≡ o → or_else o (first_at (gone tp tc) 0 qs) ≡ At j → ⊥
-      go (At i) f h =
+      go : (o : Option ℕ) → first_at (named tp tc n) 0 qs ≡ o → or_else o (first_at (gone tp tc) 0 qs) ≡ Some j → ⊥
+      go (Some i) f h =
           let (l, t) = found_at (named tp tc n) [] qs i f in
           let (a, b) = named-true tp tc n (get_or qs i []) t in
           ⊎_elim (λ q. (none i l).0 (q, b)) (λ q. (none i l).1 (q, b)) a
-      go Nowhere f h =
+      go None f h =
           let (l, t) = found_at (gone tp tc) [] qs j (unfold or_else in h) in
           (none j l).2 (gone-true tp tc (get_or qs j []) t)

@@ -1,4 +1,5 @@
 -- The numbers of make, mount, list, free, land, sync, unmount and reading. Assumes nothing.
+use Rattle.std.specs.Prelude.{Some, None}
 use mathlib.Core.Path.{◌≡◌, refl}
 use mathlib.Core.Bool.{true, false, not, ◌&&◌}
 use mathlib.Core.List.{List, [], ◌∷◌}
@@ -13,8 +14,7 @@ use Rattle.sectors.specs.Sectors.{sec}
 use Rattle.counts.specs.declared.Geo.{Geo}
 use Rattle.counts.specs.Geometry.{g_n, geo_ok, geo_of, count_of}
 use Rattle.card.specs.declared.Line.{Line}
-use Rattle.card.specs.declared.Report.{Report}
-use Rattle.card.specs.Plan.{Plan, refuse, guard, go_ahead, refused, done, Changed, Listed}
+use Rattle.card.specs.Plan.{Report, Plan, refuse, guard, go_ahead, refused, done, Changed, Listed}
 use Rattle.card.specs.Files.{list_plan, list_end}
 use Rattle.card.specs.Sound.{sound_in, shape_ok, sound}
 use Rattle.card.proofs.SoundLaws.{shape-inv}
@@ -24,14 +24,13 @@ use Rattle.card.proofs.MeansProved.{sound-means}
 use Rattle.card.specs.Make.{make_plan, make}
 use Rattle.card.specs.Reading.{files_shown, read_plan, read, read_list}
 use Rattle.session.specs.declared.Opened.{Opened}
-use Rattle.session.specs.declared.Session.{Session}
-use Rattle.session.specs.declared.Session.TheVariants.{Closed, Open}
+use Rattle.session.specs.Session.{Session}
 use Rattle.session.specs.Views.{present_files, session_files}
 use Rattle.session.specs.Fits.{fits}
 use Rattle.session.specs.FitMeans.{Fits}
 use Rattle.session.proofs.FitMeansProved.{fits-mean}
 use Rattle.store.specs.Mount.{Ended, mount_plan, mount_done, mount}
-use Rattle.store.specs.declared.Room.{Room}
+use Rattle.store.specs.Given.{Room}
 use Rattle.store.specs.Look.{list_tests, list, no_figures, figures, free}
 use Rattle.store.specs.Sync.{both_plan, land, sync_done, sync, unmount_done, unmount}
 use Rattle.promises_answers.specs.Numbers.{Row, row, Exactly, Misshapen, closed, make_rows, mount_rows, list_rows, free_rows, land_rows, sync_rows, unmount_rows, read_rows, read_list_rows}
@@ -121,47 +120,47 @@ of-read-list img lines =
 
 pub of-list : (s : Session) (work : List ℕ) (lines : List Line) → Exactly (list s work lines).answer.number (list_rows s work lines)
 unfolding list list_tests list_plan session_files
-of-list Closed work lines = exactly {rows = list_rows Closed work lines} {p = refuse 4} (list-number [] lines (refuse 4)) closed-row
-of-list (Open s) work lines =
+of-list None work lines = exactly {rows = list_rows None work lines} {p = refuse 4} (list-number [] lines (refuse 4)) closed-row
+of-list (Some s) work lines =
     exactly (list-number (present_files s (sec work)) lines _)
     (open_row s (means-row 2 (fits s work) _ _ (fits-mean s work)
     (λ e. le-row 10 (length (present_files s (sec work))) (length lines) go_ahead [] (λ l. done-row))))
 
 pub of-free : (s : Session) (work : List ℕ) → Exactly (free s work).number (free_rows s work)
 unfolding free no_figures figures number_of
-of-free Closed work = exactly {rows = free_rows Closed work} {p = refuse 4} refl closed-row
-of-free (Open s) work =
+of-free None work = exactly {rows = free_rows None work} {p = refuse 4} refl closed-row
+of-free (Some s) work =
     exactly
     (ended-number (λ (r : Room). r.number) _ _ (λ k. refl) (λ j a. refl) (guard 2 (fits s work) go_ahead))
     (open_row s (means-row 2 (fits s work) go_ahead [] (fits-mean s work) (λ e. done-row)))
 
 -- the first rows of the calls with two images
 pub two-images : (s : Opened) (card work : List ℕ) (p : Plan) (rows : List Row) → Follows rows p
-    → Follows (closed (Open s) ∷ row 1 (length card ≢ 512 * s.geo.s) ∷ row 2 (¬ Fits s work) ∷ rows) (both_plan s card work p)
+    → Follows (closed (Some s) ∷ row 1 (length card ≢ 512 * s.geo.s) ∷ row 2 (¬ Fits s work) ∷ rows) (both_plan s card work p)
 unfolding both_plan
 two-images s card work p rows g =
     open_row s (eq-row 1 (length card) (512 * s.geo.s) _ _ (λ e. means-row 2 (fits s work) p rows (fits-mean s work) (λ f. g)))
 
 pub of-land : (s : Session) (card work : List ℕ) (i : ℕ) → Exactly (land s card work i).answer.number (land_rows s card work i)
 unfolding land refused done number_of
-of-land Closed card work i = exactly {rows = land_rows Closed card work i} {p = refuse 4} refl closed-row
-of-land (Open s) card work i =
+of-land None card work i = exactly {rows = land_rows None card work i} {p = refuse 4} refl closed-row
+of-land (Some s) card work i =
     exactly
     (ended-number (λ (r : Changed). r.answer.number) _ _ (λ k. refl) (λ j a. refl) (both_plan s card work (guard 11 (ltb i s.geo.s) go_ahead)))
     (two-images s card work _ _ (lt-row 11 i s.geo.s go_ahead [] (λ l. done-row)))
 
 pub of-sync : (s : Session) (card work : List ℕ) → Exactly (sync s card work).answer.number (sync_rows s card work)
 unfolding sync sync_done refused done number_of
-of-sync Closed card work = exactly {rows = sync_rows Closed card work} {p = refuse 4} refl closed-row
-of-sync (Open s) card work =
+of-sync None card work = exactly {rows = sync_rows None card work} {p = refuse 4} refl closed-row
+of-sync (Some s) card work =
     exactly
     (ended-number (λ (r : Ended). r.answer.number) _ _ (λ k. refl) (λ j a. refl) (both_plan s card work (guard 9 (not s.worn) go_ahead)))
     (two-images s card work _ _ (not-row 9 s.worn go_ahead [] (λ l. done-row)))
 
 pub of-unmount : (s : Session) (card work : List ℕ) → Exactly (unmount s card work).answer.number (unmount_rows s card work)
 unfolding unmount unmount_done refused done number_of
-of-unmount Closed card work = exactly {rows = unmount_rows Closed card work} {p = refuse 4} refl closed-row
-of-unmount (Open s) card work =
+of-unmount None card work = exactly {rows = unmount_rows None card work} {p = refuse 4} refl closed-row
+of-unmount (Some s) card work =
     exactly
     (ended-number (λ (r : Ended). r.answer.number) _ _ (λ k. refl) (λ j a. refl) (both_plan s card work go_ahead))
     (two-images s card work go_ahead [] (done-row))

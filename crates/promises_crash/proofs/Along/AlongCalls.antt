@@ -1,4 +1,5 @@
 -- The plain store of a world, and that every call moves it by the plain rules. Assumes nothing.
+use Rattle.std.specs.Prelude.{Some, None}
 use mathlib.Core.Path.{◌≡◌, refl, ap}
 use mathlib.Core.List.{List}
 use mathlib.Core.Option.{Option, none, some}
@@ -9,8 +10,7 @@ use Rattle.card.specs.Plan.{refused}
 use Rattle.card.proofs.PlanLaws.{ahead!, guard-num}
 use Rattle.card.specs.Make.{make}
 use Rattle.session.specs.declared.Opened.{Opened}
-use Rattle.session.specs.declared.Session.{Session}
-use Rattle.session.specs.declared.Session.TheVariants.{Closed, Open}
+use Rattle.session.specs.Session.{Session}
 use Rattle.session.proofs.FitMeansProved.{fits-mean}
 use Rattle.store.specs.Mount.{Ended, mount_done, mount}
 use Rattle.store.specs.Edit.{put_at, remove}
@@ -31,16 +31,16 @@ use Rattle.promises_crash.specs.Along.{Plain, at_rest, Does, makes, mounts, puts
 -- ---- the plain store of a world: the files of the latest moment, and those that the session shows
 
 unfoldable pub now_of : Session → List ℕ → Option (List Item)
-now_of Closed work = none
-now_of (Open s) work = some (shown_in (Open s) work)
+now_of None work = none
+now_of (Some s) work = some (shown_in (Some s) work)
 
 abbrev pub plain_of : World → Plain
 plain_of w = record { kept = w.last; present = now_of w.session w.work }
 
 session-tells : (o : Session) (work : List ℕ) → FitOf o work → SessionTells o work (now_of o work)
 unfolding now_of
-session-tells Closed work f = tt
-session-tells (Open s) work f = looks-as s work ((fits-mean s work).0 f)
+session-tells None work f = tt
+session-tells (Some s) work f = looks-as s work ((fits-mean s work).0 f)
 
 pub world-tells : (w : World) → Reach w → Tells w (plain_of w)
 world-tells w r = record { reading = reads_as w.card w.last (card-possible w r).1; session = session-tells w.session w.work (always-fits r) }
@@ -71,8 +71,8 @@ moves_put w n d goal = by_number_lem (put_c n d goal) (put_at w.session w.work n
   where
     go : (o : Session) → (put_at o w.work n d goal).answer.number ≡ 0
         → Does (put_c n d goal) (record { kept = w.last; present = now_of o w.work }) (record { kept = w.last; present = now_of o (put_at o w.work n d goal).image })
-    go Closed z = unfold put_at refused in absurd (omega (arith, z))
-    go (Open s) z = unfold now_of in puts n d goal (put-answers (Open s) w.work n d goal z)
+    go None z = unfold put_at refused in absurd (omega (arith, z))
+    go (Some s) z = unfold now_of in puts n d goal (put-answers (Some s) w.work n d goal z)
 
 moves-remove : (w : World) (n : List ℕ) → Moves (remove_c n) (gives_at (remove_c n) w) (plain_of w) (plain_of (after (remove_c n) w))
 unfolding after edited gives_at
@@ -80,16 +80,16 @@ moves-remove w n = by_number_lem (remove_c n) (remove w.session w.work n).answer
   where
     go : (o : Session) → (remove o w.work n).answer.number ≡ 0
         → Does (remove_c n) (record { kept = w.last; present = now_of o w.work }) (record { kept = w.last; present = now_of o (remove o w.work n).image })
-    go Closed z = unfold remove refused in absurd (omega (arith, z))
-    go (Open s) z = unfold now_of in rw (remove-answers (Open s) w.work n z) (removes n w.last (shown_in (Open s) w.work))
+    go None z = unfold remove refused in absurd (omega (arith, z))
+    go (Some s) z = unfold now_of in rw (remove-answers (Some s) w.work n z) (removes n w.last (shown_in (Some s) w.work))
 
 moves-land : (w : World) (i : ℕ) → Moves (land_c i) (gives_at (land_c i) w) (plain_of w) (plain_of (after (land_c i) w))
 unfolding after gives_at
 moves-land w i = by_number_lem (land_c i) (land w.session w.card w.work i).answer.number (plain_of w) _ w (λ z. lands i (plain_of w)) (unfold refused_by in refl)
 
 -- a sync that gives 0 leaves a session open, and an unmount none
-sync-now : (s : Opened) (card work x : List ℕ) → (sync (Open s) card work).answer.number ≡ 0
-    → now_of (sync (Open s) card work).session x ≡ some (shown_in (sync (Open s) card work).session x)
+sync-now : (s : Opened) (card work x : List ℕ) → (sync (Some s) card work).answer.number ≡ 0
+    → now_of (sync (Some s) card work).session x ≡ some (shown_in (sync (Some s) card work).session x)
 unfolding sync refused
 sync-now s card work x =
     through (λ (r : Ended). r.answer.number) (λ r. now_of r.session x ≡ some (shown_in r.session x)) _ _ (λ k. refl)
@@ -102,10 +102,10 @@ moves-sync w = by_number_lem sync_c (sync w.session w.card w.work).answer.number
     go : (o : Session) → (sync o w.card w.work).answer.number ≡ 0
         → Does sync_c (record { kept = w.last; present = now_of o w.work })
         (record { kept = shown_in o w.work; present = now_of (sync o w.card w.work).session (sync o w.card w.work).work })
-    go Closed z = unfold sync refused in absurd (omega (arith, z))
-    go (Open s) z =
-        rw (sync-now s w.card w.work (sync (Open s) w.card w.work).work z, sync-same (Open s) w.card w.work z)
-        (unfold now_of in syncs w.last (shown_in (Open s) w.work))
+    go None z = unfold sync refused in absurd (omega (arith, z))
+    go (Some s) z =
+        rw (sync-now s w.card w.work (sync (Some s) w.card w.work).work z, sync-same (Some s) w.card w.work z)
+        (unfold now_of in syncs w.last (shown_in (Some s) w.work))
 
 moves-unmount : (w : World) → Moves unmount_c (gives_at unmount_c w) (plain_of w) (plain_of (after unmount_c w))
 unfolding after stepped gives_at
@@ -114,8 +114,8 @@ moves-unmount w = by_number_lem unmount_c (unmount w.session w.card w.work).answ
     go : (o : Session) → (unmount o w.card w.work).answer.number ≡ 0
         → Does unmount_c (record { kept = w.last; present = now_of o w.work })
         (record { kept = shown_in o w.work; present = now_of (unmount o w.card w.work).session (unmount o w.card w.work).work })
-    go Closed z = unfold unmount refused in absurd (omega (arith, z))
-    go (Open s) z = rw (unmount-changes s w.card w.work z).closed (unfold now_of in unmounts w.last (shown_in (Open s) w.work))
+    go None z = unfold unmount refused in absurd (omega (arith, z))
+    go (Some s) z = rw (unmount-changes s w.card w.work z).closed (unfold now_of in unmounts w.last (shown_in (Some s) w.work))
 
 -- ---- mount
 
@@ -132,10 +132,10 @@ mount-goes card work p h z = rw (mount-now card work (mount card work).work z, m
 moves-mount : (o : Session) (card work : List ℕ) (q : Pending) (m : List Item) → shown_by card ≡ m
     → Moves mount_c (gives_at mount_c (mk card work o q m)) (plain_of (mk card work o q m)) (plain_of (after mount_c (mk card work o q m)))
 unfolding gives_at after before stepped end_open after_cut
-moves-mount Closed card work q m h =
-    by_number_lem mount_c (mount card work).answer.number (plain_of (mk card work Closed q m)) _ (mk card work Closed q m) (λ z. mount-goes card work _ h z) (unfold refused_by now_of in refl)
-moves-mount (Open s) card work q m h =
-    by_number_lem mount_c (mount card work).answer.number (plain_of (mk card work (Open s) q m)) _ (after_cut card work) (λ z. mount-goes card work _ h z)
+moves-mount None card work q m h =
+    by_number_lem mount_c (mount card work).answer.number (plain_of (mk card work None q m)) _ (mk card work None q m) (λ z. mount-goes card work _ h z) (unfold refused_by now_of in refl)
+moves-mount (Some s) card work q m h =
+    by_number_lem mount_c (mount card work).answer.number (plain_of (mk card work (Some s) q m)) _ (after_cut card work) (λ z. mount-goes card work _ h z)
     (unfold refused_by now_of after_cut in (ap at_rest h))
 
 -- ---- every call

@@ -1,4 +1,5 @@
 -- The simulation, proved: what a history's world keeps and shows is a plain store that goes along with it. Assumes nothing.
+use Rattle.std.specs.Prelude.{Some, None}
 use mathlib.Core.Path.{◌≡◌, refl, ap}
 use mathlib.Core.Bool.{true}
 use mathlib.Core.List.{List, []}
@@ -12,8 +13,7 @@ use Rattle.card.specs.Plan.{refused}
 use Rattle.card.proofs.MeansParts.{limits-mean}
 use Rattle.card.specs.Make.{fresh_card}
 use Rattle.card.proofs.FreshLaws.{fresh-empty}
-use Rattle.session.specs.declared.Session.{Session}
-use Rattle.session.specs.declared.Session.TheVariants.{Closed, Open}
+use Rattle.session.specs.Session.{Session}
 use Rattle.store.specs.Sync.{sync, unmount}
 use Rattle.promises_answers.specs.PlainList.{Item, items, shown_by, shown_in}
 use Rattle.promises_crash.specs.History.{Pending, Left, World, Call, make_c, mount_c, sync_c, unmount_c, put_c, remove_c, land_c, get_c, list_c, free_c, after_cut, by_number, before, steps_of, play, pending_in, is_sync, Reach, fresh, call, cut, cut_in, Reads}
@@ -26,7 +26,7 @@ use Rattle.promises_crash.proofs.Along.AlongCalls.{now_of, plain_of, world-tells
 -- ---- cuts
 
 -- with no session open a sync or unmount takes no step
-closed-steps : (c : Call) (n : ℕ) (card work : List ℕ) (q : Pending) (m : List Item) → is_sync c ≡ true → pending_in c n (mk card work Closed q m) ≡ q
+closed-steps : (c : Call) (n : ℕ) (card work : List ℕ) (q : Pending) (m : List Item) → is_sync c ≡ true → pending_in c n (mk card work None q m) ≡ q
 unfolding is_sync pending_in before steps_of sync unmount refused by_number play
 closed-steps (make_c g) n card work q m e = falsum e
 closed-steps mount_c n card work q m e = falsum e
@@ -55,11 +55,11 @@ along-old w r h c n card work x q = rw (rest_of card work w.last q.shows) (cuts_
 along-new : (o : Session) (k v : List ℕ) (p : Pending) (m : List Item) (r : Reach (mk k v o p m)) → Along (mk k v o p m) r (plain_of (mk k v o p m))
     → (c : Call) (n : ℕ) (card work : List ℕ) (x : Left (pending_in c n (mk k v o p m)) (length k) card) → is_sync c ≡ true → Reads card (shown_in o v)
     → Along (after_cut card work) (cut_in r c n card work x) (plain_of (after_cut card work))
-along-new Closed k v p m r h c n card work x e q =
-    along-old (mk k v Closed p m) r h c n card work x ((demand-three (mk k v Closed p m) r).0 card (rw (closed-steps c n k v p m e) at x))
-along-new (Open s) k v p m r h c n card work x e q =
-    let a : Along (mk k v (Open s) p m) r (in_session m (shown_in (Open s) v)) = unfold now_of in h in
-    rw (rest_of card work (shown_in (Open s) v) q.shows) (cuts_sync a c n card work x e (reads_as card (shown_in (Open s) v) q))
+along-new None k v p m r h c n card work x e q =
+    along-old (mk k v None p m) r h c n card work x ((demand-three (mk k v None p m) r).0 card (rw (closed-steps c n k v p m e) at x))
+along-new (Some s) k v p m r h c n card work x e q =
+    let a : Along (mk k v (Some s) p m) r (in_session m (shown_in (Some s) v)) = unfold now_of in h in
+    rw (rest_of card work (shown_in (Some s) v) q.shows) (cuts_sync a c n card work x e (reads_as card (shown_in (Some s) v) q))
 
 along-in : (w : World) (r : Reach w) → Along w r (plain_of w) → (c : Call) (n : ℕ) (card work : List ℕ) (x : Left (pending_in c n w) (length w.card) card)
     → Along (after_cut card work) (cut_in r c n card work x) (plain_of (after_cut card work))

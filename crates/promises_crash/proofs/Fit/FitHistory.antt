@@ -1,4 +1,5 @@
 -- In every history an open session fits its working image, so no call of a history answers 2. Assumes nothing.
+use Rattle.std.specs.Prelude.{Some, None}
 use mathlib.Core.Path.{◌≡◌, refl}
 use mathlib.Core.Bool.{Bool, true, false}
 use mathlib.Core.List.{List, []}
@@ -12,8 +13,7 @@ use Rattle.card.specs.Plan.{refused, done, Changed}
 use Rattle.card.proofs.PlanLaws.{ahead!, guard-num}
 use Rattle.card.specs.Make.{make}
 use Rattle.session.specs.declared.Opened.{Opened}
-use Rattle.session.specs.declared.Session.{Session}
-use Rattle.session.specs.declared.Session.TheVariants.{Closed, Open}
+use Rattle.session.specs.Session.{Session}
 use Rattle.session.specs.Fits.{fits}
 use Rattle.session.proofs.FitLaws.{Fit, fit-intro}
 use Rattle.store.specs.Steps.{mount_steps, sync_steps, unmount_steps, sync_work, at_top}
@@ -48,23 +48,23 @@ step-make g w h =
 
 step-put : (n d : List ℕ) (goal : ℕ) (s : Session) (card work : List ℕ) (p : Pending) (m : List Item) → FitOf s work → FitW (after (put_c n d goal) (mk card work s p m))
 unfolding after edited put_at refused done by_number
-step-put n d goal Closed card work p m h = h
-step-put n d goal (Open s) card work p m h =
-    by-plan (λ (r : Changed). r.answer.number) FitW (mk card work (Open s) p m) _ _ (λ r. mk card r.image (Open s) (all_written r.image p) m) (λ k. refl) (put-num s work n d goal) h
+step-put n d goal None card work p m h = h
+step-put n d goal (Some s) card work p m h =
+    by-plan (λ (r : Changed). r.answer.number) FitW (mk card work (Some s) p m) _ _ (λ r. mk card r.image (Some s) (all_written r.image p) m) (λ k. refl) (put-num s work n d goal) h
     (λ j a e. fit-intro s _ (put-fits s work n d goal j a e))
 
 step-remove : (n : List ℕ) (s : Session) (card work : List ℕ) (p : Pending) (m : List Item) → FitOf s work → FitW (after (remove_c n) (mk card work s p m))
 unfolding after edited remove refused done by_number
-step-remove n Closed card work p m h = h
-step-remove n (Open s) card work p m h =
-    by-plan (λ (r : Changed). r.answer.number) FitW (mk card work (Open s) p m) _ _ (λ r. mk card r.image (Open s) (all_written r.image p) m) (λ k. refl) (remove-num s work n) h
+step-remove n None card work p m h = h
+step-remove n (Some s) card work p m h =
+    by-plan (λ (r : Changed). r.answer.number) FitW (mk card work (Some s) p m) _ _ (λ r. mk card r.image (Some s) (all_written r.image p) m) (λ k. refl) (remove-num s work n) h
     (λ j a e. fit-intro s _ (remove-fits s work n j a e))
 
 step-land : (i : ℕ) (s : Session) (card work : List ℕ) (p : Pending) (m : List Item) → FitOf s work → FitW (after (land_c i) (mk card work s p m))
 unfolding after land refused done by_number
-step-land i Closed card work p m h = h
-step-land i (Open s) card work p m h =
-    by-plan (λ (r : Changed). r.answer.number) FitW (mk card work (Open s) p m) _ _ (λ r. mk r.image work (Open s) p m) (λ k. refl) (both-num s card work (guard-num 10 _ ahead!)) h (λ j a e. h)
+step-land i None card work p m h = h
+step-land i (Some s) card work p m h =
+    by-plan (λ (r : Changed). r.answer.number) FitW (mk card work (Some s) p m) _ _ (λ r. mk r.image work (Some s) p m) (λ k. refl) (both-num s card work (guard-num 10 _ ahead!)) h (λ j a e. h)
 
 -- the session after a sync fits what the sync left
 pub next_fits : (s : Opened) (work : List ℕ) → Fit s work → s.worn ≡ false → fits (grown (at_top s) s) (sync_work s work) ≡ true
@@ -78,31 +78,31 @@ next_fits s work F live = go (at_top s) refl
 
 step-sync : (s : Session) (card work : List ℕ) (p : Pending) (m : List Item) → FitOf s work → FitW (after sync_c (mk card work s p m))
 unfolding after stepped steps_of syncs_by sync refused by_number
-step-sync Closed card work p m h = h
-step-sync (Open s) card work p m h =
-    by-plan (λ (r : Ended). r.answer.number) FitW (mk card work (Open s) p m) _ _
-    (λ r. mk r.card r.work r.session (play (by_number r.answer.number (sync_steps s card work []) []) p) (shown_in (Open s) work)) (λ k. refl)
+step-sync None card work p m h = h
+step-sync (Some s) card work p m h =
+    by-plan (λ (r : Ended). r.answer.number) FitW (mk card work (Some s) p m) _ _
+    (λ r. mk r.card r.work r.session (play (by_number r.answer.number (sync_steps s card work []) []) p) (shown_in (Some s) work)) (λ k. refl)
     (both-num s card work (guard-num 8 _ ahead!)) h
     (λ j a e. let (F, live) = sync-live s card work e in finish F live)
   where
     finish : Fit s work → s.worn ≡ false
         → FitW (by_number (sync_done s card work).answer.number
         (mk (sync_done s card work).card (sync_done s card work).work (sync_done s card work).session
-        (play (by_number (sync_done s card work).answer.number (sync_steps s card work []) []) p) (shown_in (Open s) work)) (mk card work (Open s) p m))
+        (play (by_number (sync_done s card work).answer.number (sync_steps s card work []) []) p) (shown_in (Some s) work)) (mk card work (Some s) p m))
     finish F live = unfold sync_done done by_number in next_fits s work F live
 
 step-unmount : (s : Session) (card work : List ℕ) (p : Pending) (m : List Item) → FitOf s work → FitW (after unmount_c (mk card work s p m))
 unfolding after stepped steps_of unmounts_by unmount unmount_done refused done by_number
-step-unmount Closed card work p m h = h
-step-unmount (Open s) card work p m h =
-    by-plan (λ (r : Ended). r.answer.number) FitW (mk card work (Open s) p m) _ _
-    (λ r. mk r.card r.work r.session (play (by_number r.answer.number (unmount_steps s card work) []) p) (shown_in (Open s) work)) (λ k. refl)
+step-unmount None card work p m h = h
+step-unmount (Some s) card work p m h =
+    by-plan (λ (r : Ended). r.answer.number) FitW (mk card work (Some s) p m) _ _
+    (λ r. mk r.card r.work r.session (play (by_number r.answer.number (unmount_steps s card work) []) p) (shown_in (Some s) work)) (λ k. refl)
     (both-num s card work ahead!) h (λ j a e. tt)
 
-mount-closed : (card work : List ℕ) (p : Pending) (m : List Item) → FitW (stepped (mk card work Closed p m) (mount card work) (steps_of mount_c (mk card work Closed p m)) (shown_by card))
+mount-closed : (card work : List ℕ) (p : Pending) (m : List Item) → FitW (stepped (mk card work None p m) (mount card work) (steps_of mount_c (mk card work None p m)) (shown_by card))
 unfolding stepped steps_of mount mount_done refused done by_number
 mount-closed card work p m =
-    by-plan (λ (r : Ended). r.answer.number) FitW (mk card work Closed p m) _ _
+    by-plan (λ (r : Ended). r.answer.number) FitW (mk card work None p m) _ _
     (λ r. mk r.card r.work r.session (play (by_number r.answer.number (mount_steps card) []) p) (shown_by card)) (λ k. refl) (mount-num card work) tt
     (λ j a e.
     let (x, y) = mount-good card work j a e in
@@ -110,10 +110,10 @@ mount-closed card work p m =
 
 step-mount : (s : Session) (card work : List ℕ) (p : Pending) (m : List Item) → FitW (after mount_c (mk card work s p m))
 unfolding after before end_open
-step-mount Closed card work p m = mount-closed card work p m
-step-mount (Open s) card work p m = over (mount-closed card work (settled card) (shown_by card))
+step-mount None card work p m = mount-closed card work p m
+step-mount (Some s) card work p m = over (mount-closed card work (settled card) (shown_by card))
   where
-    over : FitW (stepped (mk card work Closed (settled card) (shown_by card)) (mount card work) (steps_of mount_c (mk card work Closed (settled card) (shown_by card))) (shown_by card))
+    over : FitW (stepped (mk card work None (settled card) (shown_by card)) (mount card work) (steps_of mount_c (mk card work None (settled card) (shown_by card))) (shown_by card))
         → FitW (stepped (after_cut card work) (mount (after_cut card work).card (after_cut card work).work) (steps_of mount_c (after_cut card work)) (shown_by (after_cut card work).card))
     over h = unfold after_cut in h
 

@@ -1,4 +1,5 @@
 -- The two figures of free in a session that fits: what they count, put's 8, and that nothing waits where both views are one. Assumes nothing.
+use Rattle.std.specs.Prelude.{Some}
 use mathlib.Core.Path.{◌≡◌, refl, sym, ap, ◌∙◌}
 use mathlib.Core.Bool.{true, false, not, ◌&&◌}
 use mathlib.Core.List.{List}
@@ -25,7 +26,6 @@ use Rattle.card.proofs.BitmapLaws.{InData}
 use Rattle.card.proofs.SoundLaws.{View, view-inv}
 use Rattle.card.proofs.SpaceLaws.{clear-bit}
 use Rattle.session.specs.declared.Opened.{Opened}
-use Rattle.session.specs.declared.Session.TheVariants.{Open}
 use Rattle.session.specs.Views.{present_table, cut_table, present_page, cut_page}
 use Rattle.session.specs.Fits.{fits}
 use Rattle.session.proofs.FitLaws.{Fit, fit-inv, fit-table, present-worn}
@@ -101,10 +101,10 @@ module _ (s : Opened) (work : List ℕ) (fit : fits s work ≡ true) where
 
   -- none of put's earlier numbers is due: 8 exactly where no run of the k sectors is found
   module _ (n d : List ℕ) (live : s.worn ≡ false) (good : GoodName n) (entry : ¬ NoEntry s work n) where
-    no_run : (put (Open s) work n d).answer.number ≡ 8 → NoRoom s work (sectors_for (length d))
-    no_run e = go ((numbers.of_put (Open s) work n d 8).0 e)
+    no_run : (put (Some s) work n d).answer.number ≡ 8 → NoRoom s work (sectors_for (length d))
+    no_run e = go ((numbers.of_put (Some s) work n d 8).0 e)
       where
-        go : Gives (put_rows (Open s) work n d) 8 → NoRoom s work (sectors_for (length d))
+        go : Gives (put_rows (Some s) work n d) 8 → NoRoom s work (sectors_for (length d))
         go (inl r) = absurd (omega (arith, r.1))
         go (inr (a, inl r)) = absurd (omega (arith, r.1))
         go (inr (a, inr (b, inl r))) = absurd (omega (arith, r.1))
@@ -113,12 +113,12 @@ module _ (s : Opened) (work : List ℕ) (fit : fits s work ≡ true) where
         go (inr (a, inr (b, inr (c, inr (e, inr (f, inl r)))))) = r.0
         go (inr (a, inr (b, inr (c, inr (e, inr (f, inr r)))))) = absurd (omega (arith, r.1))
 
-    gives-8 : NoRoom s work (sectors_for (length d)) → (put (Open s) work n d).answer.number ≡ 8
+    gives-8 : NoRoom s work (sectors_for (length d)) → (put (Some s) work n d).answer.number ≡ 8
     gives-8 r =
-        (numbers.of_put (Open s) work n d 8).1
+        (numbers.of_put (Some s) work n d 8).1
         (inr (λ e. never (cc), inr (λ u. u ((fits-mean s work).0 fit), inr (λ w. falsum (sym live ∙ w), inr (λ b. b good, inr (entry, inl (r, refl)))))))
 
-    pub full-8 : 1 ≤ length d → length d ≤ 512 → ((put (Open s) work n d).answer.number ≡ 8) ↔ (free_in p q ≡ 0)
+    pub full-8 : 1 ≤ length d → length d ≤ 512 → ((put (Some s) work n d).answer.number ≡ 8) ↔ (free_in p q ≡ 0)
     full-8 lo hi = (λ e. none_left (rw one at (no_run e)), λ z. gives-8 (rw one (no-sector z)))
       where
         one : sectors_for (length d) ≡ 1
@@ -133,7 +133,7 @@ module _ (s : Opened) (work : List ℕ) (fit : fits s work ≡ true) where
         no-sector : free_in p q ≡ 0 → NoRoom s work 1
         no-sector z = (omega arith, λ a x y page b. none_free p q (alike s work F) z a (omega (arith, present-wide s work F, L.covered)) (b a (omega arith) (omega arith)))
 
-    pub short-8 : free_in p q < sectors_for (length d) → (put (Open s) work n d).answer.number ≡ 8
+    pub short-8 : free_in p q < sectors_for (length d) → (put (Some s) work n d).answer.number ≡ 8
     short-8 l =
         gives-8
         (omega arith, λ a x y page b. omega (arith, free-run p q (alike s work F) a (sectors_for (length d)) (omega (arith, present-wide s work F, L.covered)) b))

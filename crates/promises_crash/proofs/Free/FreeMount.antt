@@ -1,4 +1,5 @@
 -- A session's figures at its mount: what reading the card shows free, and nothing waiting. Assumes nothing.
+use Rattle.std.specs.Prelude.{Some}
 use mathlib.Core.Path.{◌≡◌, refl, sym, ◌∙◌}
 use mathlib.Core.Bool.{true, false}
 use mathlib.Core.List.{List}
@@ -13,7 +14,6 @@ use Rattle.card.specs.Sound.{shape_ok, sound}
 use Rattle.card.proofs.SoundLaws.{sound-view, shape-inv}
 use Rattle.card.proofs.AgreeLaws.{Bump, bump-table, page-agree}
 use Rattle.card.specs.Reading.{page_shown, read_plan, read}
-use Rattle.session.specs.declared.Session.TheVariants.{Open}
 use Rattle.session.proofs.FitLaws.{fit-intro}
 use Rattle.store.specs.Steps.{set_count, mount_steps}
 use Rattle.store.proofs.StepLaws.{mount-bump}
@@ -44,7 +44,7 @@ module _ (card : List ℕ) (shape : shape_ok card ≡ true) (good : sound card �
       rw (bump-table (geo_of (sec card)) (sec card) (sec up) bump)
       (page-agree (geo_of (sec card)) (sec card) (sec up) 0 (omega arith) bump.other (count_of (sec card)) (table_of (geo_of (sec card)) (sec card)) (sound-view (geo_of (sec card)) (sec card) good))
 
-  figures-at : ((free (Open (opened_from card)) (apply_steps (mount_steps card) card)).free ≡ (read card).free) × ((free (Open (opened_from card)) (apply_steps (mount_steps card) card)).waiting ≡ 0)
+  figures-at : ((free (Some (opened_from card)) (apply_steps (mount_steps card) card)).free ≡ (read card).free) × ((free (Some (opened_from card)) (apply_steps (mount_steps card) card)).waiting ≡ 0)
   figures-at =
       let R = mount-rest card shape good few in
       let fit = fit-intro _ _ (mount-fits card shape good few) in

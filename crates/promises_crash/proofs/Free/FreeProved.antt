@@ -1,4 +1,5 @@
 -- Document 02, No. 1, proved: the two figures of free; a sync releases what waits. Assumes nothing.
+use Rattle.std.specs.Prelude.{Some}
 use mathlib.Core.Path.{◌≡◌, refl, ◌∙◌}
 use mathlib.Core.Bool.{true, false}
 use mathlib.Core.List.{List}
@@ -12,7 +13,6 @@ use Rattle.card.specs.Plan.{refused}
 use Rattle.card.proofs.PlanLaws.{ahead!, guard-num}
 use Rattle.card.proofs.AgreeLaws.{page-agree}
 use Rattle.session.specs.declared.Opened.{Opened}
-use Rattle.session.specs.declared.Session.TheVariants.{Open}
 use Rattle.session.specs.Views.{present_page, cut_page}
 use Rattle.session.specs.Fits.{fits}
 use Rattle.session.proofs.FitLaws.{Fit, fit-inv, present-live}
@@ -37,7 +37,7 @@ use Rattle.promises_crash.proofs.Free.FreeCounts.{free-count, waiting-count, ful
 
 -- what free says of a session whose two maps are both m
 module _ (s : Opened) (work : List ℕ) (fit : fits s work ≡ true) (m : List ℕ) (ep : present_page s (sec work) ≡ m) (eq : cut_page s (sec work) ≡ m) where
-  pub one-view : ((free (Open s) work).number ≡ 0) × ((free (Open s) work).free ≡ clear_bits m) × ((free (Open s) work).waiting ≡ 0)
+  pub one-view : ((free (Some s) work).number ≡ 0) × ((free (Some s) work).free ≡ clear_bits m) × ((free (Some s) work).waiting ≡ 0)
   unfolding figures
   one-view = rw (free-is s work fit, ep, eq) (refl, free-self m, waiting-self m)
 
@@ -49,8 +49,8 @@ module _ (s : Opened) (work : List ℕ) (F : Fit s work) (live : s.worn ≡ fals
       rw (sync-table s work F live, present-live s (sec work) live)
       (page-agree s.geo (sec work) (sec (set_word s.c.0 s.t.0 work)) (table_sector s.c.0) (room s work F live).1 (sync-other s work F live) s.c.0 (tp_of s work) (pres s work F live))
 
-  released : ((free (Open (grown (at_top s) s)) (sync_work s work)).number ≡ 0) × ((free (Open (grown (at_top s) s)) (sync_work s work)).free ≡ clear_bits (present_page s (sec work)))
-      × ((free (Open (grown (at_top s) s)) (sync_work s work)).waiting ≡ 0)
+  released : ((free (Some (grown (at_top s) s)) (sync_work s work)).number ≡ 0) × ((free (Some (grown (at_top s) s)) (sync_work s work)).free ≡ clear_bits (present_page s (sec work)))
+      × ((free (Some (grown (at_top s) s)) (sync_work s work)).waiting ≡ 0)
   released =
       let R = sync-rest s work F live in
       one-view (grown (at_top s) s) (sync_work s work) (next_fits s work F live) (present_page s (sec work)) (rest-map s (sync_work s work) R (at_top s) ∙ same_map) (rest-cut s (sync_work s work) R (at_top s) ∙ same_map)
@@ -59,13 +59,13 @@ module _ (s : Opened) (work : List ℕ) (F : Fit s work) (live : s.worn ≡ fals
 
 module _ (s : Opened) (work : List ℕ) (fit : fits s work ≡ true) where
   abbrev After : Ended → Type 0
-  After r = ((free r.session r.work).number ≡ 0) × ((free r.session r.work).free ≡ (free (Open s) work).free + (free (Open s) work).waiting) × ((free r.session r.work).waiting ≡ 0)
+  After r = ((free r.session r.work).number ≡ 0) × ((free r.session r.work).free ≡ (free (Some s) work).free + (free (Some s) work).waiting) × ((free r.session r.work).waiting ≡ 0)
 
-  both-clear : (free (Open s) work).free + (free (Open s) work).waiting ≡ clear_bits (present_page s (sec work))
+  both-clear : (free (Some s) work).free + (free (Some s) work).waiting ≡ clear_bits (present_page s (sec work))
   unfolding figures
   both-clear = rw (free-is s work fit) (free-waiting (present_page s (sec work)) (cut_page s (sec work)) (alike s work (fit-inv s work fit)))
 
-  releases : (card : List ℕ) → (sync (Open s) card work).answer.number ≡ 0 → After (sync (Open s) card work)
+  releases : (card : List ℕ) → (sync (Some s) card work).answer.number ≡ 0 → After (sync (Some s) card work)
   unfolding sync refused
   releases card h =
       through (λ (r : Ended). r.answer.number) After _ _ (λ k. refl) (both-num s card work (guard-num 8 _ ahead!))

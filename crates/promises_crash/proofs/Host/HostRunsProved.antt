@@ -1,4 +1,5 @@
 -- A history of host functions is a history of calls: call by call the bytes hold the session that the call gives. Assumes nothing.
+use Rattle.std.specs.Prelude.{Some, None}
 use mathlib.Core.Path.{◌≡◌, refl, sym, ◌∙◌, subst}
 use mathlib.Core.List.{List}
 use mathlib.Core.Logic.{◌≢◌, ⊎_elim, inl, inr}
@@ -9,8 +10,7 @@ use Rattle.sectors.specs.Sectors.{Step}
 use Rattle.counts.specs.declared.Geo.{Geo}
 use Rattle.card.specs.Plan.{Changed}
 use Rattle.card.specs.Make.{make}
-use Rattle.session.specs.declared.Session.{Session}
-use Rattle.session.specs.declared.Session.TheVariants.{Closed, Open}
+use Rattle.session.specs.Session.{Session}
 use Rattle.store.specs.Mount.{Ended}
 use Rattle.store.specs.Sync.{land}
 use Rattle.host_crossing.specs.Crossing.{decoded, encoded}
@@ -57,14 +57,14 @@ unfolding left after
 make_same g h s p m e = go (make g h.card).answer.number refl
   where
     go : (n : ℕ) → (make g h.card).answer.number ≡ n
-        → Same (record { card = (make g h.card).image; work = h.work; bytes = by_number n (encoded Closed) h.bytes }) (by_number n (after_cut (make g h.card).image h.work) (mk h.card h.work s p m))
+        → Same (record { card = (make g h.card).image; work = h.work; bytes = by_number n (encoded None) h.bytes }) (by_number n (after_cut (make g h.card).image h.work) (mk h.card h.work s p m))
     go zero q = unfold by_number after_cut in (refl, refl, sym closed-back)
     go (suc k) q = unfold by_number in (sym (refusals.of_make g h.card (λ z. absurd (omega arith))).0, refl, e)
 
 mount-same : (s : Session) (h : Held) (p : Pending) (m : List Item) → Same (left mount_c h) (after mount_c (mk h.card h.work s p m))
 unfolding left after before end_open after_cut
-mount-same Closed h p m = stepped_same (mk h.card h.work Closed p m) _ _ _ _ (mount-crosses h.card h.work) (λ n. refusals.of_mount h.card h.work n)
-mount-same (Open s) h p m = stepped_same (after_cut h.card h.work) _ _ _ _ (mount-crosses h.card h.work) (λ n. refusals.of_mount h.card h.work n)
+mount-same None h p m = stepped_same (mk h.card h.work None p m) _ _ _ _ (mount-crosses h.card h.work) (λ n. refusals.of_mount h.card h.work n)
+mount-same (Some s) h p m = stepped_same (after_cut h.card h.work) _ _ _ _ (mount-crosses h.card h.work) (λ n. refusals.of_mount h.card h.work n)
 
 land-same : (i : ℕ) (h : Held) (p : Pending) (m : List Item) → Same (left (land_c i) h) (after (land_c i) (mk h.card h.work (decoded h.bytes) p m))
 unfolding left after
@@ -106,7 +106,7 @@ whose h w A = λ i. record { card = sym A.card i; work = sym A.work i; session =
 next : (h : Held) (w : World) → AsCalls h w → (c : Call) → Same (left c h) (after c w)
 next h w A c = subst (λ (v : World). Same (left c h) (after c v)) (whose h w A) (step c h w.pending w.last)
 
-begins : (card work b : List ℕ) → decoded b ≡ Closed → Reach (after_cut card work) → AsCalls (record { card = card; work = work; bytes = b }) (after_cut card work)
+begins : (card work b : List ℕ) → decoded b ≡ None → Reach (after_cut card work) → AsCalls (record { card = card; work = work; bytes = b }) (after_cut card work)
 unfolding after_cut
 begins card work b z r = record { reached = r; card = refl; work = refl; session = sym z }
 

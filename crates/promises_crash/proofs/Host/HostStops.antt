@@ -1,5 +1,6 @@
 -- What the functions that stop inside a call leave on the card is what a cut there may leave, at every number of steps; and the promise of host functions, joined.
 -- Assumes nothing.
+use Rattle.std.specs.Prelude.{Some, None}
 use mathlib.Core.Path.{◌≡◌, refl, sym, ap, ◌∙◌}
 use mathlib.Core.List.{List, []}
 use Prim.Native.Nat.{ℕ, zero, suc, ◌+◌, ◌≤◌}
@@ -13,8 +14,7 @@ use Rattle.sectors.proofs.Fewer.{lean-first, lean-reach}
 use Rattle.card.specs.Plan.{Plan, ended, refused, done}
 use Rattle.card.proofs.PlanLaws.{Num, no!, go!, ahead!, guard-num}
 use Rattle.session.specs.declared.Opened.{Opened}
-use Rattle.session.specs.declared.Session.{Session}
-use Rattle.session.specs.declared.Session.TheVariants.{Closed, Open}
+use Rattle.session.specs.Session.{Session}
 use Rattle.store.specs.Steps.{past_table, mount_steps, sync_steps, all_steps, unmount_steps, all_down, synced_at, down_at}
 use Rattle.store.specs.Mount.{Ended, mount_done, mount}
 use Rattle.store.specs.Sync.{sync_done, sync, unmount_done, unmount}
@@ -62,12 +62,12 @@ places-by steps far f (suc k) n = (0, take-nil {A = Step} (far 0) ∙ sym (take-
 -- ---- the three calls: how many steps stand at the first k places
 
 sync_at : Session → List ℕ → List ℕ → ℕ → ℕ
-sync_at Closed card work k = 0
-sync_at (Open s) card work k = synced_at s card work k
+sync_at None card work k = 0
+sync_at (Some s) card work k = synced_at s card work k
 
 unmount_at : Session → List ℕ → List ℕ → ℕ → ℕ
-unmount_at Closed card work k = 0
-unmount_at (Open s) card work k = down_at s card work k
+unmount_at None card work k = 0
+unmount_at (Some s) card work k = down_at s card work k
 
 abbrev Image : (ℕ → List ℕ) → (ℕ → ℕ) → List Step → List ℕ → Type 0
 Image f far steps card = ((k : ℕ) → f k ≡ apply_steps (take (far k) steps) card) × ((n : ℕ) → (k : ℕ) × (take (far k) steps ≡ take n steps))
@@ -79,8 +79,8 @@ mount-image card work = (λ k. first-image (mount-num card work) _ _ (λ n. refl
 sync-image : (o : Session) (card work : List ℕ)
     → Image (λ k. (sync_first o card work k).image) (sync_at o card work) (by_number (sync o card work).answer.number (syncs_by o card work) []) card
 unfolding sync_first sync sync_done syncs_by sync_at refused done
-sync-image Closed card work = (λ k. (unfold by_number apply_steps in refl), λ n. (0, unfold by_number in sym (take-nil {A = Step} n)))
-sync-image (Open s) card work = (
+sync-image None card work = (λ k. (unfold by_number apply_steps in refl), λ n. (0, unfold by_number in sym (take-nil {A = Step} n)))
+sync-image (Some s) card work = (
   λ k. first-image (both-num s card work (guard-num 8 _ ahead!)) _ _ (λ n. refl) (λ j a. refl) card (synced_at s card work k) _ (sync_steps s card work []),
   λ n. places-by (sync_steps s card work []) (synced_at s card work) (sync-places s card work) _ n,
 )
@@ -88,8 +88,8 @@ sync-image (Open s) card work = (
 unmount-image : (o : Session) (card work : List ℕ)
     → Image (λ k. (unmount_first o card work k).image) (unmount_at o card work) (by_number (unmount o card work).answer.number (unmounts_by o card work) []) card
 unfolding unmount_first unmount unmount_done unmounts_by unmount_at refused done
-unmount-image Closed card work = (λ k. (unfold by_number apply_steps in refl), λ n. (0, unfold by_number in sym (take-nil {A = Step} n)))
-unmount-image (Open s) card work = (
+unmount-image None card work = (λ k. (unfold by_number apply_steps in refl), λ n. (0, unfold by_number in sym (take-nil {A = Step} n)))
+unmount-image (Some s) card work = (
   λ k. first-image (both-num s card work ahead!) _ _ (λ n. refl) (λ j a. refl) card (down_at s card work k) _ (unmount_steps s card work),
   λ n. places-by (unmount_steps s card work) (down_at s card work) (down-places s card work) _ n,
 )
@@ -110,8 +110,8 @@ stops h w A c {f} far q (e, g) =
 
 mount-steps : (s : Session) (w : World) → steps_of mount_c (end_open s w) ≡ by_number (mount w.card w.work).answer.number (mount_steps w.card) []
 unfolding steps_of end_open after_cut
-mount-steps Closed w = refl
-mount-steps (Open s) w = refl
+mount-steps None w = refl
+mount-steps (Some s) w = refl
 
 module _ (h : Held) (w : World) (A : AsCalls h w) where
   of-mount : steps_of mount_c (before mount_c w) ≡ by_number (mount h.card h.work).answer.number (mount_steps h.card) []

@@ -1,4 +1,5 @@
 -- What land, mount, sync and unmount leave, and that five calls count 0: proved. Assumes nothing.
+use Rattle.std.specs.Prelude.{Some, None}
 use mathlib.Core.Path.{◌≡◌, refl, ◌∙◌}
 use mathlib.Core.List.{List}
 use Prim.Native.Nat.{ℕ, ◌+◌, ◌*◌, ◌^◌, ◌<◌}
@@ -17,8 +18,7 @@ use Rattle.card.proofs.PlanLaws.{ahead!, guard-inv, guard-num}
 use Rattle.card.specs.Make.{make}
 use Rattle.card.proofs.SoundLaws.{shape-inv}
 use Rattle.session.specs.declared.Opened.{Opened}
-use Rattle.session.specs.declared.Session.{Session}
-use Rattle.session.specs.declared.Session.TheVariants.{Closed, Open}
+use Rattle.session.specs.Session.{Session}
 use Rattle.session.proofs.FitLaws.{Fit, fit-inv}
 use Rattle.store.specs.Steps.{set_count, mount_steps}
 use Rattle.store.proofs.StepLaws.{count-length, count-here, count-count}
@@ -122,18 +122,18 @@ count-mount card work = counts-none (λ (r : Ended). r.answer.count) _ _ (λ k. 
 
 count-put : (s : Session) (work n d : List ℕ) (goal : ℕ) → (put_at s work n d goal).answer.count ≡ 0
 unfolding put_at refused done
-count-put Closed work n d goal = refl
-count-put (Open s) work n d goal = counts-none (λ (r : Changed). r.answer.count) _ _ (λ k. refl) (λ j a. refl) _
+count-put None work n d goal = refl
+count-put (Some s) work n d goal = counts-none (λ (r : Changed). r.answer.count) _ _ (λ k. refl) (λ j a. refl) _
 
 count-remove : (s : Session) (work n : List ℕ) → (remove s work n).answer.count ≡ 0
 unfolding remove refused done
-count-remove Closed work n = refl
-count-remove (Open s) work n = counts-none (λ (r : Changed). r.answer.count) _ _ (λ k. refl) (λ j a. refl) _
+count-remove None work n = refl
+count-remove (Some s) work n = counts-none (λ (r : Changed). r.answer.count) _ _ (λ k. refl) (λ j a. refl) _
 
 count-land : (s : Session) (card work : List ℕ) (i : ℕ) → (land s card work i).answer.count ≡ 0
 unfolding land refused done
-count-land Closed card work i = refl
-count-land (Open s) card work i = counts-none (λ (r : Changed). r.answer.count) _ _ (λ k. refl) (λ j a. refl) _
+count-land None card work i = refl
+count-land (Some s) card work i = counts-none (λ (r : Changed). r.answer.count) _ _ (λ k. refl) (λ j a. refl) _
 
 pub counts-nothing : CountsNothing
 counts-nothing =

@@ -1,4 +1,5 @@
 -- Mount, sync and unmount keep the invariant, and so every call does. Assumes nothing.
+use Rattle.std.specs.Prelude.{Some, None}
 use mathlib.Core.Path.{◌≡◌, refl, sym}
 use mathlib.Core.Bool.{Bool, true, false}
 use mathlib.Core.List.{List, []}
@@ -15,8 +16,7 @@ use Rattle.card.proofs.PlanLaws.{ahead!, guard-num}
 use Rattle.card.specs.Files.{files_of}
 use Rattle.card.specs.Reading.{files_in, files_shown}
 use Rattle.session.specs.declared.Opened.{Opened}
-use Rattle.session.specs.declared.Session.{Session}
-use Rattle.session.specs.declared.Session.TheVariants.{Closed, Open}
+use Rattle.session.specs.Session.{Session}
 use Rattle.session.specs.Views.{present_files, session_files}
 use Rattle.session.proofs.FitLaws.{Fit, fit-inv, fit-table, present-worn}
 use Rattle.store.specs.Steps.{set_count, set_word, mount_steps, sync_steps, at_top, down_steps, unmount_steps_by, unmount_steps, sync_work}
@@ -39,10 +39,10 @@ pub own-geo : (g : Geo) (card : List ℕ) (p : Pending) (m : List Item) → AtRe
 own-geo g card p m K = rw K.calm.is.geo K
 
 mount-rests : (g : Geo) (card work : List ℕ) (p : Pending) (m : List Item) → AtRest g card p m
-    → Inv (stepped (mk card work Closed p m) (mount card work) (steps_of mount_c (mk card work Closed p m)) (shown_by card))
+    → Inv (stepped (mk card work None p m) (mount card work) (steps_of mount_c (mk card work None p m)) (shown_by card))
 unfolding stepped steps_of mount refused
 mount-rests g card work p m K₀ =
-    by-plan (λ (r : Ended). r.answer.number) Inv (mk card work Closed p m) _ _
+    by-plan (λ (r : Ended). r.answer.number) Inv (mk card work None p m) _ _
     (λ r. mk r.card r.work r.session (play (by_number r.answer.number (mount_steps card) []) p) (shown_by card)) (λ k. refl) (mount-num card work) (g, K₀)
     (λ j a e. finish (mount-few card work j a e))
   where
@@ -55,7 +55,7 @@ mount-rests g card work p m K₀ =
     finish : count_of (sec card) < g_n (geo_of (sec card))
         → Inv (by_number (mount_done card).answer.number
         (mk (mount_done card).card (mount_done card).work (mount_done card).session (play (by_number (mount_done card).answer.number (mount_steps card) []) p) (shown_by card))
-        (mk card work Closed p m))
+        (mk card work None p m))
     finish few =
         unfold mount_done done by_number opened_from in
         (rw (mount-card card p m K few, mount-lands card p m K few, sym same) (live few))
@@ -66,9 +66,9 @@ mount-rests g card work p m K₀ =
 
 step-mount : (s : Session) (card work : List ℕ) (p : Pending) (m : List Item) → InvOf s (mk card work s p m) → Inv (after mount_c (mk card work s p m))
 unfolding after before end_open
-step-mount Closed card work p m h = mount-rests h.0 card work p m h.1
-step-mount (Open s) card work p m h =
-    over (inv-calm card work m (inv-reads (mk card work (Open s) p m) h card (inv_left (mk card work (Open s) p m) h)))
+step-mount None card work p m h = mount-rests h.0 card work p m h.1
+step-mount (Some s) card work p m h =
+    over (inv-calm card work m (inv-reads (mk card work (Some s) p m) h card (inv_left (mk card work (Some s) p m) h)))
   where
     over : Inv (after_cut card work) → Inv (stepped (after_cut card work) (mount (after_cut card work).card (after_cut card work).work) (steps_of mount_c (after_cut card work)) (shown_by (after_cut card work).card))
     over k = unfold after_cut in mount-rests k.0 card work (settled card) (shown_by card) k.1
@@ -80,58 +80,58 @@ unfolding at_top
 not_top s h e = let q = eqb-false s.t.0 max_tx e in omega arith
 
 sync-inv : (s : Opened) (card work : List ℕ) (p : Pending) (m : List Item) → Live s card work p m → Fit s work → s.worn ≡ false
-    → InvOf (Open (grown (at_top s) s))
-    (mk (apply_steps (sync_steps s card work []) card) (set_word s.c.0 s.t.0 work) (Open (grown (at_top s) s)) (play (sync_steps s card work []) p) (shown_in (Open s) work))
+    → InvOf (Some (grown (at_top s) s))
+    (mk (apply_steps (sync_steps s card work []) card) (set_word s.c.0 s.t.0 work) (Some (grown (at_top s) s)) (play (sync_steps s card work []) p) (shown_in (Some s) work))
 sync-inv s card work p m V₀ F live = rw (sync-card s card work p m V₀ F live [], sync-play s card work p m V₀ F live []) (unfold apply_steps play in go (at_top s) refl)
   where
     go : (b : Bool) → at_top s ≡ b
-        → InvOf (Open (grown b s)) (mk (set_word s.c.0 s.t.0 work) (set_word s.c.0 s.t.0 work) (Open (grown b s)) (settled (set_word s.c.0 s.t.0 work)) (shown_in (Open s) work))
+        → InvOf (Some (grown b s)) (mk (set_word s.c.0 s.t.0 work) (set_word s.c.0 s.t.0 work) (Some (grown b s)) (settled (set_word s.c.0 s.t.0 work)) (shown_in (Some s) work))
     go true e = worn (next-worn s card work p m V₀ F live)
       where
-        worn : Worn (grown true s).geo (set_word s.c.0 s.t.0 work) (set_word s.c.0 s.t.0 work) (settled (set_word s.c.0 s.t.0 work)) (shown_in (Open s) work)
+        worn : Worn (grown true s).geo (set_word s.c.0 s.t.0 work) (set_word s.c.0 s.t.0 work) (settled (set_word s.c.0 s.t.0 work)) (shown_in (Some s) work)
             → OpenInv (grown true s).worn (grown true s)
-            (mk (set_word s.c.0 s.t.0 work) (set_word s.c.0 s.t.0 work) (Open (grown true s)) (settled (set_word s.c.0 s.t.0 work)) (shown_in (Open s) work))
+            (mk (set_word s.c.0 s.t.0 work) (set_word s.c.0 s.t.0 work) (Some (grown true s)) (settled (set_word s.c.0 s.t.0 work)) (shown_in (Some s) work))
         worn h = unfold grown in h
     go false e = again (next-live s card work p m V₀ F live (not_top s F.tx e))
       where
-        again : Live (grown false s) (set_word s.c.0 s.t.0 work) (set_word s.c.0 s.t.0 work) (settled (set_word s.c.0 s.t.0 work)) (shown_in (Open s) work)
+        again : Live (grown false s) (set_word s.c.0 s.t.0 work) (set_word s.c.0 s.t.0 work) (settled (set_word s.c.0 s.t.0 work)) (shown_in (Some s) work)
             → OpenInv (grown false s).worn (grown false s)
-            (mk (set_word s.c.0 s.t.0 work) (set_word s.c.0 s.t.0 work) (Open (grown false s)) (settled (set_word s.c.0 s.t.0 work)) (shown_in (Open s) work))
+            (mk (set_word s.c.0 s.t.0 work) (set_word s.c.0 s.t.0 work) (Some (grown false s)) (settled (set_word s.c.0 s.t.0 work)) (shown_in (Some s) work))
         again h = unfold grown in h
 
 step-sync : (s : Session) (card work : List ℕ) (p : Pending) (m : List Item) → InvOf s (mk card work s p m) → Inv (after sync_c (mk card work s p m))
 unfolding after stepped steps_of syncs_by sync refused by_number
-step-sync Closed card work p m h = h
-step-sync (Open s) card work p m h =
-    by-plan (λ (r : Ended). r.answer.number) Inv (mk card work (Open s) p m) _ _
-    (λ r. mk r.card r.work r.session (play (by_number r.answer.number (sync_steps s card work []) []) p) (shown_in (Open s) work)) (λ k. refl)
+step-sync None card work p m h = h
+step-sync (Some s) card work p m h =
+    by-plan (λ (r : Ended). r.answer.number) Inv (mk card work (Some s) p m) _ _
+    (λ r. mk r.card r.work r.session (play (by_number r.answer.number (sync_steps s card work []) []) p) (shown_in (Some s) work)) (λ k. refl)
     (both-num s card work (guard-num 8 _ ahead!)) h
     (λ j a e. let (F, live) = sync-live s card work e in finish F live)
   where
     finish : Fit s work → s.worn ≡ false
         → Inv (by_number (sync_done s card work).answer.number
         (mk (sync_done s card work).card (sync_done s card work).work (sync_done s card work).session
-        (play (by_number (sync_done s card work).answer.number (sync_steps s card work []) []) p) (shown_in (Open s) work)) (mk card work (Open s) p m))
-    finish F live = unfold sync_done sync_work done by_number in sync-inv s card work p m (to-live s (mk card work (Open s) p m) live h) F live
+        (play (by_number (sync_done s card work).answer.number (sync_steps s card work []) []) p) (shown_in (Some s) work)) (mk card work (Some s) p m))
+    finish F live = unfold sync_done sync_work done by_number in sync-inv s card work p m (to-live s (mk card work (Some s) p m) live h) F live
 
 -- ---- unmount
 
 -- a worn session shows what its card shows
-worn-shows : (s : Opened) (card work : List ℕ) (p : Pending) (m : List Item) → s.worn ≡ true → Fit s work → Worn s.geo card work p m → shown_in (Open s) work ≡ m
+worn-shows : (s : Opened) (card work : List ℕ) (p : Pending) (m : List Item) → s.worn ≡ true → Fit s work → Worn s.geo card work p m → shown_in (Some s) work ≡ m
 unfolding shown_in session_files present_files
 worn-shows s card work p m e F W = rw (present-worn s (sec work) e (fit-table s.geo work F.shape F.sized), W.same) (open-files W.rest.calm.is.shows)
   where
     open-files : items card (files_in s.geo (sec card)) ≡ m → items card (files_of (table_of s.geo (sec card)) (entries_of s.geo (sec card))) ≡ m
     open-files h = unfold files_in in h
 
-unmount-rests : (b : Bool) (s : Opened) (card work : List ℕ) (p : Pending) (m : List Item) → s.worn ≡ b → OpenInv b s (mk card work (Open s) p m) → Fit s work
-    → AtRest s.geo (apply_steps (unmount_steps_by b s card work) card) (play (unmount_steps_by b s card work) p) (shown_in (Open s) work)
+unmount-rests : (b : Bool) (s : Opened) (card work : List ℕ) (p : Pending) (m : List Item) → s.worn ≡ b → OpenInv b s (mk card work (Some s) p m) → Fit s work
+    → AtRest s.geo (apply_steps (unmount_steps_by b s card work) card) (play (unmount_steps_by b s card work) p) (shown_in (Some s) work)
 unfolding unmount_steps_by
 unmount-rests true s card work p m e W F = unfold apply_steps play in rw (worn-shows s card work p m e F W) W.rest
 unmount-rests false s card work p m e V₀ F = go (at_top s) refl
   where
     go : (b : Bool) → at_top s ≡ b
-        → AtRest s.geo (apply_steps (sync_steps s card work (down_steps b s (set_word s.c.0 s.t.0 work))) card) (play (sync_steps s card work (down_steps b s (set_word s.c.0 s.t.0 work))) p) (shown_in (Open s) work)
+        → AtRest s.geo (apply_steps (sync_steps s card work (down_steps b s (set_word s.c.0 s.t.0 work))) card) (play (sync_steps s card work (down_steps b s (set_word s.c.0 s.t.0 work))) p) (shown_in (Some s) work)
     go true q = unfold down_steps in (rw (sync-card s card work p m V₀ F e [], sync-play s card work p m V₀ F e []) (unfold apply_steps play in new-rests s card work p m V₀ F e))
     go false q =
         unfold down_steps in
@@ -140,17 +140,17 @@ unmount-rests false s card work p m e V₀ F = go (at_top s) refl
 
 step-unmount : (s : Session) (card work : List ℕ) (p : Pending) (m : List Item) → InvOf s (mk card work s p m) → Inv (after unmount_c (mk card work s p m))
 unfolding after stepped steps_of unmounts_by unmount refused by_number
-step-unmount Closed card work p m h = h
-step-unmount (Open s) card work p m h =
-    by-plan (λ (r : Ended). r.answer.number) Inv (mk card work (Open s) p m) _ _
-    (λ r. mk r.card r.work r.session (play (by_number r.answer.number (unmount_steps s card work) []) p) (shown_in (Open s) work)) (λ k. refl)
+step-unmount None card work p m h = h
+step-unmount (Some s) card work p m h =
+    by-plan (λ (r : Ended). r.answer.number) Inv (mk card work (Some s) p m) _ _
+    (λ r. mk r.card r.work r.session (play (by_number r.answer.number (unmount_steps s card work) []) p) (shown_in (Some s) work)) (λ k. refl)
     (both-num s card work ahead!) h
     (λ j a e. finish (fit-inv s work (both-inv s card work _ e).0))
   where
     finish : Fit s work
         → Inv (by_number (unmount_done s card work).answer.number
         (mk (unmount_done s card work).card (unmount_done s card work).work (unmount_done s card work).session
-        (play (by_number (unmount_done s card work).answer.number (unmount_steps s card work) []) p) (shown_in (Open s) work)) (mk card work (Open s) p m))
+        (play (by_number (unmount_done s card work).answer.number (unmount_steps s card work) []) p) (shown_in (Some s) work)) (mk card work (Some s) p m))
     finish F = unfold unmount_done unmount_steps done by_number in (s.geo, unmount-rests s.worn s card work p m refl h F)
 
 pub inv-step : (w : World) → Inv w → (c : Call) → Inv (after c w)

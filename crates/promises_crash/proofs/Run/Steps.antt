@@ -1,4 +1,5 @@
 -- Put, remove, land, get, list, free and make keep the invariant. Assumes nothing.
+use Rattle.std.specs.Prelude.{Some, None}
 use mathlib.Core.Path.{◌≡◌, refl, sym, ◌∙◌, subst}
 use mathlib.Core.Bool.{Bool, true, false}
 use mathlib.Core.List.{List, Memᴰ}
@@ -21,8 +22,7 @@ use Rattle.card.specs.Make.{fresh_card, make}
 use Rattle.card.proofs.FreshLaws.{fresh-shape, fresh-sound}
 use Rattle.card.specs.Reading.{files_shown}
 use Rattle.session.specs.declared.Opened.{Opened}
-use Rattle.session.specs.declared.Session.{Session}
-use Rattle.session.specs.declared.Session.TheVariants.{Closed, Open}
+use Rattle.session.specs.Session.{Session}
 use Rattle.session.specs.Fits.{fits}
 use Rattle.session.proofs.FitLaws.{Fit, fit-inv}
 use Rattle.store.specs.Edit.{put_at, remove}
@@ -114,34 +114,34 @@ worn-land g card work p m W i = let e : set_sec card i (sec work i) ≡ card = r
 
 pub step-put : (n d : List ℕ) (goal : ℕ) (s : Session) (card work : List ℕ) (p : Pending) (m : List Item) → InvOf s (mk card work s p m) → Inv (after (put_c n d goal) (mk card work s p m))
 unfolding after edited put_at refused done by_number
-step-put n d goal Closed card work p m h = h
-step-put n d goal (Open s) card work p m h =
-    by-plan (λ (r : Changed). r.answer.number) Inv (mk card work (Open s) p m) _ _ (λ r. mk card r.image (Open s) (all_written r.image p) m) (λ k. refl) (put-num s work n d goal) h
+step-put n d goal None card work p m h = h
+step-put n d goal (Some s) card work p m h =
+    by-plan (λ (r : Changed). r.answer.number) Inv (mk card work (Some s) p m) _ _ (λ r. mk card r.image (Some s) (all_written r.image p) m) (λ k. refl) (put-num s work n d goal) h
     (λ j a e.
     let live = (put_inv s work n d goal j a e).live in
-    let V₀ = to-live s (mk card work (Open s) p m) live h in
+    let V₀ = to-live s (mk card work (Some s) p m) live h in
     from-live s _ live (live-edit s card work p m V₀ _ (put-left s V₀.img₀ V₀.base work (work-keeps s card work p m V₀) n d goal j a e)))
 
 pub step-remove : (n : List ℕ) (s : Session) (card work : List ℕ) (p : Pending) (m : List Item) → InvOf s (mk card work s p m) → Inv (after (remove_c n) (mk card work s p m))
 unfolding after edited remove refused done by_number
-step-remove n Closed card work p m h = h
-step-remove n (Open s) card work p m h =
-    by-plan (λ (r : Changed). r.answer.number) Inv (mk card work (Open s) p m) _ _ (λ r. mk card r.image (Open s) (all_written r.image p) m) (λ k. refl) (remove-num s work n) h
+step-remove n None card work p m h = h
+step-remove n (Some s) card work p m h =
+    by-plan (λ (r : Changed). r.answer.number) Inv (mk card work (Some s) p m) _ _ (λ r. mk card r.image (Some s) (all_written r.image p) m) (λ k. refl) (remove-num s work n) h
     (λ j a e.
     let live = (remove-inv s work n j a e).live in
-    let V₀ = to-live s (mk card work (Open s) p m) live h in
+    let V₀ = to-live s (mk card work (Some s) p m) live h in
     from-live s _ live (live-edit s card work p m V₀ _ (remove-left s V₀.img₀ V₀.base work (work-keeps s card work p m V₀) n j a e)))
 
 open-land : (b : Bool) (s : Opened) (card work : List ℕ) (p : Pending) (m : List Item) (i : ℕ) → i < s.geo.s → fits s work ≡ true
-    → OpenInv b s (mk card work (Open s) p m) → OpenInv b s (mk (set_sec card i (sec work i)) work (Open s) p m)
+    → OpenInv b s (mk card work (Some s) p m) → OpenInv b s (mk (set_sec card i (sec work i)) work (Some s) p m)
 open-land true s card work p m i l f h = worn-land s.geo card work p m h i
 open-land false s card work p m i l f h = live-land s card work p m h i l (fit-inv s work f)
 
 pub step-land : (i : ℕ) (s : Session) (card work : List ℕ) (p : Pending) (m : List Item) → InvOf s (mk card work s p m) → Inv (after (land_c i) (mk card work s p m))
 unfolding after land refused done by_number
-step-land i Closed card work p m h = h
-step-land i (Open s) card work p m h =
-    by-plan (λ (r : Changed). r.answer.number) Inv (mk card work (Open s) p m) _ _ (λ r. mk r.image work (Open s) p m) (λ k. refl) (both-num s card work (guard-num 10 _ ahead!)) h
+step-land i None card work p m h = h
+step-land i (Some s) card work p m h =
+    by-plan (λ (r : Changed). r.answer.number) Inv (mk card work (Some s) p m) _ _ (λ r. mk r.image work (Some s) p m) (λ k. refl) (both-num s card work (guard-num 10 _ ahead!)) h
     (λ j a e.
     let (f, q) = both-inv s card work _ e in
     open-land s.worn s card work p m i (ltb-true i s.geo.s (guard-inv 11 _ _ q).0) f h)

@@ -1,4 +1,5 @@
 -- What a sync and an unmount leave: the card is the new base, live, worn or closed. Assumes nothing.
+use Rattle.std.specs.Prelude.{Some}
 use mathlib.Core.Path.{◌≡◌, refl, sym, ap, ◌∙◌}
 use mathlib.Core.Bool.{true, false}
 use mathlib.Core.List.{List, [], ◌∷◌, Memᴰ}
@@ -17,7 +18,6 @@ use Rattle.counts.specs.Stamps.{max_tx}
 use Rattle.card.specs.Reading.{files_in}
 use Rattle.card.proofs.AgreeLaws.{Bump}
 use Rattle.session.specs.declared.Opened.{Opened}
-use Rattle.session.specs.declared.Session.TheVariants.{Open}
 use Rattle.session.proofs.FitLaws.{Fit}
 use Rattle.store.specs.Steps.{set_count, set_word}
 use Rattle.store.proofs.StepLaws.{count-length, count-other, count-count, count-geo, count-tail}
@@ -41,7 +41,7 @@ module _ (s : Opened) (card work : List ℕ) (p : Pending) (m : List Item) (V₀
 
   -- ---- after a sync: live, or worn
 
-  pub next-live : s.t.0 < max_tx → Live (grown false s) new_work new_work (settled new_work) (shown_in (Open s) work)
+  pub next-live : s.t.0 < max_tx → Live (grown false s) new_work new_work (settled new_work) (shown_in (Some s) work)
   next-live h =
       record {
         img₀ = new_work;
@@ -57,7 +57,7 @@ module _ (s : Opened) (card work : List ℕ) (p : Pending) (m : List Item) (V₀
       geo : geo_of (sec new_work) ≡ (grown false s).geo
       geo = unfold grown in sync-geo s work F live
 
-      shows : items new_work (files_in (grown false s).geo (sec new_work)) ≡ shown_in (Open s) work
+      shows : items new_work (files_in (grown false s).geo (sec new_work)) ≡ shown_in (Some s) work
       shows = unfold grown in sync-shows s work F live
 
       one : (i : ℕ) (x : List ℕ) → Memᴰ x (settled new_work i) → x ≡ sec new_work i
@@ -72,7 +72,7 @@ module _ (s : Opened) (card work : List ℕ) (p : Pending) (m : List Item) (V₀
       sized : length new_work ≡ 512 * (grown false s).geo.s
       sized = unfold grown in sync-length s work F live
 
-  pub next-worn : Worn (grown true s).geo new_work new_work (settled new_work) (shown_in (Open s) work)
+  pub next-worn : Worn (grown true s).geo new_work new_work (settled new_work) (shown_in (Some s) work)
   unfolding grown
   next-worn = record { rest = new-rests s card work p m V₀ F live; same = refl }
 
@@ -114,7 +114,7 @@ module _ (s : Opened) (card work : List ℕ) (p : Pending) (m : List Item) (V₀
     unfolding settled
     rest i x o y = mem-one (rw (written-there 0 (sec down 0) (settled new_work) i o) at y) ∙ bump.other i o
 
-    down-good : Good g down (shown_in (Open s) work)
+    down-good : Good g down (shown_in (Some s) work)
     down-good =
         let w = sync-length s work F live in
         let good = down-sound s work F live h (sec down) bump in
@@ -126,7 +126,7 @@ module _ (s : Opened) (card work : List ℕ) (p : Pending) (m : List Item) (V₀
           shows = sym (bump-items g down new_work bump good) ∙ sync-shows s work F live;
         }
 
-    pub down-calm : Calm g down may (shown_in (Open s) work)
+    pub down-calm : Calm g down may (shown_in (Some s) work)
     down-calm =
         record {
           is = down-good;
@@ -142,7 +142,7 @@ module _ (s : Opened) (card work : List ℕ) (p : Pending) (m : List Item) (V₀
             let d = head_of (sec new_work) (λ i. x) e in
             record { count = d.0 ∙ bump.count; geo = d.1 ∙ sync-geo s work F live; tail = ap (drop 16) e ∙ bump.tail; small = few }
 
-    pub down-rests : AtRest g down may (shown_in (Open s) work)
+    pub down-rests : AtRest g down may (shown_in (Some s) work)
     down-rests = record { calm = down-calm; top = λ i. go i (ℕ_discrete i 0) }
       where
         go : (i : ℕ) → Dec (i ≡ 0) → newest (may i) ≡ sec down i ∷ []

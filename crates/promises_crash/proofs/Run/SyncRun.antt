@@ -1,4 +1,5 @@
 -- A sync, step by step: at each cut the base or the present view, at its end the present view. Assumes nothing.
+use Rattle.std.specs.Prelude.{Some}
 use mathlib.Core.Path.{◌≡◌, refl, sym, ap, ◌∙◌, fun_ext, subst}
 use mathlib.Core.Bool.{Bool, true, false}
 use mathlib.Core.List.{List, ◌∷◌, Memᴰ}
@@ -13,7 +14,6 @@ use Rattle.sectors.proofs.FlatLaws.{sec-in, set_here, set_there, image-same}
 use Rattle.counts.specs.declared.Geo.{Geo}
 use Rattle.counts.proofs.GeoLaws.{Limits, limits}
 use Rattle.session.specs.declared.Opened.{Opened}
-use Rattle.session.specs.declared.Session.TheVariants.{Open}
 use Rattle.session.proofs.FitLaws.{Fit}
 use Rattle.store.specs.Steps.{set_word, table_sector, sync_steps, all_steps}
 use Rattle.store.proofs.SyncFewer.{sync-same-card}
@@ -27,7 +27,7 @@ use Rattle.promises_crash.proofs.State.{Good, calm-reads, AtRest, good-rests, Li
 
 -- what a cut inside may read
 abbrev pub Either : Opened → List ℕ → List Item → Pending → Type 0
-Either s work m p = (card : List ℕ) → Left p (512 * s.geo.s) card → Reads card m ⊎ (◌≡◌ {A = Bool} true true × Reads card (shown_in (Open s) work))
+Either s work m p = (card : List ℕ) → Left p (512 * s.geo.s) card → Reads card m ⊎ (◌≡◌ {A = Bool} true true × Reads card (shown_in (Some s) work))
 
 module _ (s : Opened) (card work : List ℕ) (p : Pending) (m : List Item) (V₀ : Live s card work p m) (F : Fit s work) (live : s.worn ≡ false) where
   abbrev g : Geo
@@ -55,11 +55,11 @@ module _ (s : Opened) (card work : List ℕ) (p : Pending) (m : List Item) (V₀
   unfolding settled
   keep-settled i x y = rw (mem-one y) (keeps-work i)
 
-  pub new-good : Good g new_work (shown_in (Open s) work)
+  pub new-good : Good g new_work (shown_in (Some s) work)
   new-good =
       record { sized = sync-length s work F live; geo = sync-geo s work F live; ok = F.shape; good = sync-sound s work F live; shows = sync-shows s work F live }
 
-  pub new-rests : AtRest g new_work (settled new_work) (shown_in (Open s) work)
+  pub new-rests : AtRest g new_work (settled new_work) (shown_in (Some s) work)
   new-rests = good-rests g new_work _ new-good
 
   pub new-reads : Either s work m (settled new_work)
@@ -72,7 +72,7 @@ module _ (s : Opened) (card work : List ℕ) (p : Pending) (m : List Item) (V₀
       rest : (i : ℕ) → 512 * i < 512 * g.s → i ≢ ts → Memᴰ (sec k i) (settled work i)
       rest i l o = rw (written-there ts (sec new_work ts) (settled work) i o) at (x.held i l)
 
-      go : ((ts ≡ ts) × (sec k ts ≡ sec new_work ts)) ⊎ Memᴰ (sec k ts) (settled work ts) → Reads k m ⊎ (◌≡◌ {A = Bool} true true × Reads k (shown_in (Open s) work))
+      go : ((ts ≡ ts) × (sec k ts ≡ sec new_work ts)) ⊎ Memᴰ (sec k ts) (settled work ts) → Reads k m ⊎ (◌≡◌ {A = Bool} true true × Reads k (shown_in (Some s) work))
       go (inl q) = new-reads k (record { sized = x.sized; held = λ i l. all i l (ℕ_discrete i ts) })
         where
           all : (i : ℕ) → 512 * i < 512 * g.s → Dec (i ≡ ts) → Memᴰ (sec k i) (settled new_work i)

@@ -7,14 +7,14 @@ use Rattle.counts.proofs.GeoLaws.{limits}
 use Rattle.store.proofs.WriteLaws.{count-here}
 use Rattle.store_card.proofs.has_count.Goals as goal
 
-pub geo_of-g-requires : goal.geo_of-g-requires
-geo_of-g-requires c = let (g, m) = shape-inv _ c.requires in let L = limits _ g in omega (arith, m, L.s_low)
-
-pub crash_counts-n-requires : goal.crash_counts-n-requires
-crash_counts-n-requires c = let (g, m) = shape-inv _ c.requires in let L = limits _ g in rw c.geo_of-g.ensures (omega (arith, L.t_high))
-
 pub word_at-requires : goal.word_at-requires
 word_at-requires c = let (g, m) = shape-inv _ c.requires in let L = limits _ g in omega (arith, m, L.s_low)
 
+pub geo_of-requires : goal.geo_of-requires
+geo_of-requires c = let (g, m) = shape-inv _ c.requires in let L = limits _ g in omega (arith, m, L.s_low)
+
+pub crash_counts-requires : goal.crash_counts-requires
+crash_counts-requires c = let (g, m) = shape-inv _ c.requires in let L = limits _ g in rw c.geo_of.ensures (omega (arith, L.t_high))
+
 pub returns : goal.returns
-returns c = let (g, m) = shape-inv _ c.requires in let L = limits _ g in let h : 512 ≤ length c.args.card.now = omega (arith, m, L.s_low) in rw (c.word_at.ensures, c.crash_counts-n.ensures, c.geo_of-g.ensures, count-here c.args.card.now h)
+returns c = let (g, m) = shape-inv _ c.requires in let L = limits _ g in let h : 512 ≤ length c.args.card.now = omega (arith, m, L.s_low) in rw (c.word_at.ensures, c.crash_counts.ensures, c.geo_of.ensures, count-here c.args.card.now h)

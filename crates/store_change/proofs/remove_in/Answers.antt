@@ -1,11 +1,6 @@
 -- A change with no content. Assumes nothing.
-use Rattle.store.specs.Edit.{remove_work}
 use Rattle.store.proofs.RoomLaws.{can-remove}
 use Rattle.store_change.proofs.remove_in.Goals as goal
 
 pub edit-requires : goal.edit-requires
 edit-requires c = let p = c.requires in can-remove _ _ _ _ p.0 p.1.0 p.1.1
-
-pub returns : goal.returns
-unfolding remove_work
-returns c = c.edit.ensures

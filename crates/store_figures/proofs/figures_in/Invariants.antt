@@ -1,8 +1,7 @@
 -- The loop's invariant: both figures of the pairs passed are counted. Assumes nothing.
 use mathlib.Core.Path.{◌≡◌}
-use Prim.Native.Nat.{◌+◌, ◌-◌, ◌*◌, ◌≤◌}
+use Prim.Native.Nat.{◌+◌, ◌*◌, ◌≤◌}
 use Rattle.sectors.specs.Sectors.{sec}
-use Rattle.counts.specs.Geometry.{g_p}
 use Rattle.counts.specs.Stamps.{table_in}
 use Rattle.apages.specs.Free.{free_in, waiting_in}
 use Rattle.apages.specs.Index.{page_in}
@@ -13,8 +12,8 @@ abbrev pub invariant-loop-p : goal.invariant-loop-p
 invariant-loop-p l =
     let tp = table_in l.g l.v (sec l.img) in
     let tc = table_in l.g l.w (sec l.img) in
-    (l.p ≤ g_p l.g) × (l.free + left_in free_in l.g tp tc l.img l.p ≡ free_in (page_in l.g tp (sec l.img)) (page_in l.g tc (sec l.img)))
-    × (l.waiting + left_in waiting_in l.g tp tc l.img l.p ≡ waiting_in (page_in l.g tp (sec l.img)) (page_in l.g tc (sec l.img))) × (l.free ≤ 4096 * l.p) × (l.waiting ≤ 4096 * l.p)
-
-abbrev pub decreases-loop-p : goal.decreases-loop-p
-decreases-loop-p l = g_p l.g - l.p
+    record {
+      free : l.free + left_in free_in l.g tp tc l.img l.p ≡ free_in (page_in l.g tp (sec l.img)) (page_in l.g tc (sec l.img));
+      waiting : l.waiting + left_in waiting_in l.g tp tc l.img l.p ≡ waiting_in (page_in l.g tp (sec l.img)) (page_in l.g tc (sec l.img));
+      few : (l.free ≤ 4096 * l.p) × (l.waiting ≤ 4096 * l.p);
+    }

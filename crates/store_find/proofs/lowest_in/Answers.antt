@@ -12,19 +12,19 @@ loop-p-init c = refl
 pub pages_at-x-requires : goal.pages_at-x-requires
 pages_at-x-requires c = (c.requires.0, omega (arith, c.requires.1.1.0))
 
-pub run_on-here-requires : goal.run_on-here-requires
-run_on-here-requires c =
+pub run_on-requires : goal.run_on-requires
+run_on-requires c =
     pages-held c.args.g _ _ c.args.work.now c.pages_at-x.ensures.0 c.requires.0 c.requires.1.0 _ _ c.requires.1.1.1 (omega arith)
 
-pub returns-in-From : goal.returns-in-From
-returns-in-From c =
+pub returns-in-Some : goal.returns-in-Some
+returns-in-Some c =
     search-found c.args.g _ _ c.args.work.now _ c.requires.0 c.requires.1.0 c.requires.1.1.1 _ _ (omega arith) c.requires.1.1.0
-    (pages-found c.args.g _ _ c.args.work.now c.pages_at-x.ensures.0 _ _ _ c.pages_at-x.ensures.1 c.run_on-here.ensures) c.loop-p.invariant _ (ap found_of c.in-From.is)
+    (pages-found c.args.g _ _ c.args.work.now c.pages_at-x.ensures.0 _ _ _ c.pages_at-x.ensures.1 c.run_on.ensures) c.loop-p.invariant _ (ap found_of c.in-Some.is)
 
 pub loop-p-preserved : goal.loop-p-preserved
 loop-p-preserved c =
     search-go c.args.g _ _ c.args.work.now _ c.requires.0 c.requires.1.0 c.requires.1.1.1 _ _ (omega arith) c.requires.1.1.0
-    (pages-found c.args.g _ _ c.args.work.now c.pages_at-x.ensures.0 _ _ _ c.pages_at-x.ensures.1 c.run_on-here.ensures) c.loop-p.invariant (ap found_of c.in_default.is)
+    (pages-found c.args.g _ _ c.args.work.now c.pages_at-x.ensures.0 _ _ _ c.pages_at-x.ensures.1 c.run_on.ensures) c.loop-p.invariant (ap found_of c.in_default.is)
 
 pub returns : goal.returns
 returns c =

@@ -1,16 +1,25 @@
--- What the session's listing says is what `list` says. Assumes nothing.
+-- What the listing says is what `list` says. Assumes nothing.
 use mathlib.Core.Path.{subst, sym, ◌∙◌}
 use lib.ListN.{length}
+use Rattle.std.proofs.lemmas.Result.{err_from_is_err_and}
+use Rattle.card.specs.Plan.{refused, done}
 use Rattle.store.specs.Look.{list}
-use Rattle.store_listing.specs.declared.Listing.{Listing}
-use Rattle.store_listing.specs.Inner.{HasRoom}
-use Rattle.store_listing.proofs.ListingLaws.{Fills, list-ready, list-fills}
+use Rattle.store_listing.specs.Listings.{Listing, no_listing, filled_to}
+use Rattle.store_listing.proofs.ListingLaws.{Ready, Fills, list-ready, list-fills}
 use Rattle.store_listing.proofs.list_fitting.Goals as goal
 
+pub returns-in_err-l : goal.returns-in_err-l
+unfolding no_listing refused filled_to
+returns-in_err-l c =
+    let p = err_from_is_err_and c.from_residual.result c.from_residual.ensures.1 in
+    let f = subst (λ (l : Listing). Fills l c.args.work.now c.args.lines.now (list c.args.session c.args.work.now c.args.lines.now)) (sym c.in_err-l.ensures) (list-fills c.args.session c.args.work.now c.args.lines.now) in
+    (rw (p.1, p.2) f.0, f.1)
+
 pub fill_lines-requires : goal.fill_lines-requires
-fill_lines-requires c = subst (λ (l : Listing). HasRoom l c.args.work.now (length c.args.lines.now)) (sym c.session_listing-l.ensures) (list-ready c.args.session c.args.work.now (length c.args.lines.now))
+fill_lines-requires c = subst (λ (l : Listing). Ready l c.args.work.now (length c.args.lines.now)) (sym c.in_ok-l.ensures) (list-ready c.args.session c.args.work.now (length c.args.lines.now))
 
 pub returns : goal.returns
+unfolding done
 returns c =
-    let f = subst (λ (l : Listing). Fills l c.args.work.now c.args.lines.now (list c.args.session c.args.work.now c.args.lines.now)) (sym c.session_listing-l.ensures) (list-fills c.args.session c.args.work.now c.args.lines.now) in
-    (c.fill_lines.ensures.0 ∙ f.0, c.fill_lines.ensures.1 ∙ f.1)
+    let f = subst (λ (l : Listing). Fills l c.args.work.now c.args.lines.now (list c.args.session c.args.work.now c.args.lines.now)) (sym c.in_ok-l.ensures) (list-fills c.args.session c.args.work.now c.args.lines.now) in
+    (f.0, c.fill_lines.ensures ∙ f.1)

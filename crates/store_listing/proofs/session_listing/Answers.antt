@@ -1,18 +1,23 @@
 -- 4, then the count; the fit that it requires gives the layout. Assumes nothing.
+use mathlib.Core.Path.{◌≡◌, refl}
 use borrow.Author.Rules.{rules}
+use Rattle.card.specs.declared.Refusal.TheVariants.{Closed}
+use Rattle.std.specs.Prelude.{Err}
 use Rattle.store.proofs.Fitting.{open-fits}
 use Rattle.store.proofs.ViewLaws.{fit-laid}
 use Rattle.store_listing.proofs.ListingTests.{session-4, session-go}
 use Rattle.store_listing.proofs.session_listing.Goals as goal
 
-pub returns-in_default : goal.returns-in_default
-returns-in_default c = session-4 _ _ c.in_default.is c.no_listing.ensures
+pub returns-in_err-s : goal.returns-in_err-s
+returns-in_err-s c =
+    let q : c.from_residual.result ≡ Err Closed = search rules in
+    session-4 _ _ c.in_err-s.ensures.ok_part (rw q refl)
 
-pub present_view-present-requires : goal.present_view-present-requires
-present_view-present-requires c = let l = fit-laid _ _ (open-fits _ c.in-Open.is c.requires) in search rules
+pub present_view-requires : goal.present_view-requires
+present_view-requires c = let l = fit-laid _ _ (open-fits _ c.in_ok-s.ensures.ok_part c.requires) in search rules
 
 pub listing_in-requires : goal.listing_in-requires
-listing_in-requires c = fit-laid _ _ (open-fits _ c.in-Open.is c.requires)
+listing_in-requires c = fit-laid _ _ (open-fits _ c.in_ok-s.ensures.ok_part c.requires)
 
 pub returns : goal.returns
-returns c = session-go _ _ _ c.in-Open.is (open-fits _ c.in-Open.is c.requires) c.present_view-present.ensures c.listing_in.ensures
+returns c = session-go _ _ _ c.in_ok-s.ensures.ok_part (open-fits _ c.in_ok-s.ensures.ok_part c.requires) c.present_view.ensures c.listing_in.ensures

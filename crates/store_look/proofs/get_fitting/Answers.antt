@@ -3,17 +3,14 @@ use borrow.Author.Rules.{rules}
 use Rattle.session.proofs.FitLaws.{fit-inv}
 use Rattle.store.proofs.Fitting.{open-fits}
 use Rattle.store.proofs.ViewLaws.{fit-laid}
-use Rattle.store.proofs.LookLaws.{fit-runs, get-closed, get-done}
+use Rattle.store.proofs.LookLaws.{fit-runs, get-done}
 use Rattle.store_look.proofs.get_fitting.Goals as goal
 
-pub returns-in_default : goal.returns-in_default
-returns-in_default c = get-closed _ _ _ c.in_default.is c.refusal.ensures
-
 pub present_view-present-requires : goal.present_view-present-requires
-present_view-present-requires c = let l = fit-laid _ _ (open-fits _ c.in-Open.is c.requires) in search rules
+present_view-present-requires c = let l = fit-laid _ _ (open-fits _ c.in_ok-s.ensures.ok_part c.requires) in search rules
 
 pub get_in-requires : goal.get_in-requires
-get_in-requires c = let f = open-fits _ c.in-Open.is c.requires in (fit-laid _ _ f, ((fit-inv _ _ f).sized, fit-runs _ _ f c.present_view-present.ensures))
+get_in-requires c = let f = open-fits _ c.in_ok-s.ensures.ok_part c.requires in (fit-laid _ _ f, ((fit-inv _ _ f).sized, fit-runs _ _ f c.present_view-present.ensures))
 
 pub returns : goal.returns
-returns c = get-done _ _ _ _ c.in-Open.is (open-fits _ c.in-Open.is c.requires) c.present_view-present.ensures c.get_in.ensures
+returns c = get-done _ _ _ _ c.in_ok-s.ensures.ok_part (open-fits _ c.in_ok-s.ensures.ok_part c.requires) c.present_view-present.ensures c.get_in.ensures

@@ -1,5 +1,4 @@
--- The loop's invariant: the answer is what was seen so far, and that for what is left of both. Assumes nothing.
-use mathlib.Core.Path.{refl}
+-- `words::same` meets its contract: what was seen, and what is left of both. Assumes nothing.
 use native.Mathlib.Omega.{arith}
 use Rattle.words.proofs.EveryLaws.{eq_list-go, eq_list-end, eq_list-other}
 use Rattle.words.proofs.same.Goals as goal
@@ -7,14 +6,11 @@ use Rattle.words.proofs.same.Goals as goal
 pub returns-then-a-b : goal.returns-then-a-b
 returns-then-a-b c = eq_list-other _ _ c.if-a-b.true
 
-pub loop-i-init : goal.loop-i-init
-loop-i-init c = (omega arith, refl)
-
 pub loop-i-preserved : goal.loop-i-preserved
 loop-i-preserved c = let l = c.loop-i in
     let a = c.args in
-    (omega arith, eq_list-go a.a.now a.b.now l.i l.ok (omega arith) (omega arith) l.invariant.1)
+    eq_list-go a.a.now a.b.now l.i l.ok (omega arith) (omega arith) l.invariant
 
 pub returns : goal.returns
 returns c = let a = c.args in
-    eq_list-end a.a.now a.b.now c.loop-i.i c.loop-i.ok (omega arith) (omega arith) c.loop-i.invariant.1
+    eq_list-end a.a.now a.b.now c.loop-i.i c.loop-i.ok (omega arith) (omega arith) c.loop-i.invariant

@@ -1,4 +1,4 @@
--- `words::word_at` meets its contract: the word, byte by byte, is what the code adds up. Assumes nothing.
+-- `words::word_at` meets its contract: the word, byte by byte, is what the library adds up. Assumes nothing.
 use borrow.Author.Rules.{rules}
 use Rattle.words.proofs.WordLaws.{word_at-get_or}
 use Rattle.words.proofs.word_at.Goals as goal

@@ -1,18 +1,14 @@
--- The loop's invariant: the answer is what was seen so far, and that for what is left. Assumes nothing.
+-- `words::zeros` meets its contract: what was seen, and what is left. Assumes nothing.
 use mathlib.Core.Path.{refl}
-use native.Mathlib.Omega.{arith}
 use lib.ListN.{get_or}
 use Rattle.words.specs.Lists.{is_zero}
 use Rattle.words.proofs.EveryLaws.{seen-go, seen_end}
 use Rattle.words.proofs.zeros.Goals as goal
 
-pub loop-i-init : goal.loop-i-init
-loop-i-init c = (omega arith, refl)
-
-pub loop-i-preserved : goal.loop-i-preserved
-loop-i-preserved c = let l = c.loop-i in
+pub loop-x-preserved : goal.loop-x-preserved
+loop-x-preserved c = let l = c.loop-x in
     let s = c.args.s.now in
-    (omega arith, seen-go is_zero s 0 l.i l.ok (is_zero (get_or s l.i 0)) c.loop-i-test.true refl l.invariant.1)
+    seen-go is_zero s 0 l.x-index l.ok (is_zero (get_or s l.x-index 0)) c.loop-x-test.true refl l.invariant
 
 pub returns : goal.returns
-returns c = seen_end is_zero c.args.s.now 0 c.loop-i.i c.loop-i.ok (omega arith) c.loop-i.invariant.1
+returns c = seen_end is_zero c.args.s.now 0 c.loop-x.x-index c.loop-x.ok c.loop-x-test.false c.loop-x.invariant

@@ -1,0 +1,6 @@
+-- The bytes that are lent are those of entry j. Assumes nothing.
+use Rattle.directory.proofs.DirectoryLaws.{entry-part}
+use Rattle.directory.proofs.entry.Goals as goal
+
+pub returns-clause-bytes : goal.returns-clause-bytes
+returns-clause-bytes c = entry-part c.args.g c.args.card.now _ _ c.place_of-at.ensures c.requires.1

@@ -1,9 +1,0 @@
--- The inner call in the session that the bytes hold, which fits. Assumes nothing.
-use Rattle.host_crossing.proofs.CrossingLaws.{fit-over, put-over}
-use Rattle.fitting.proofs.fitting_put.Goals as goal
-
-pub put_fitting-a-requires : goal.put_fitting-a-requires
-put_fitting-a-requires c = fit-over _ _ c.decoded-s.ensures c.requires
-
-pub returns : goal.returns
-returns c = put-over _ _ _ _ c.decoded-s.ensures c.put_fitting-a.ensures

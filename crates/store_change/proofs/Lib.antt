@@ -1,0 +1,2 @@
+-- Laws and proofs that belong to no one function.
+pub mod Edits
