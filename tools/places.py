@@ -45,7 +45,7 @@ def lines(root, pattern):
 def own_options(root):
     """Enums of two variants, of which one or both hold a value."""
     for path, text in sources(root):
-        for m in re.finditer(r"enum (\w+)[^{]*\{(.*?)\n\}", text, re.S):
+        for m in re.finditer(r"^(?:pub )?enum (\w+)[^{\n]*\{(.*?)\n\}", text, re.S | re.M):
             variants = re.findall(r"^    (\w+)(\(.*\))?,", m.group(2), re.M)
             if len(variants) == 2 and any(v for _, v in variants):
                 yield f"{path}: enum {m.group(1)}"
@@ -117,7 +117,7 @@ def together(root):
     """Functions with an image and a geometry beside it."""
     for path, text in sources(root):
         for name, params, _, _, _ in functions(text):
-            if re.search(r": &(mut )?\[u8\]", params) and re.search(r": Geo\b", params):
+            if re.search(r"\b(?:card|work|img): &(?:mut )?\[u8\]", params) and re.search(r": Geo\b", params):
                 yield f"{path}: {name}({params})"
 
 
@@ -125,7 +125,7 @@ def steps(root):
     """Functions that choose by the number of a step."""
     for path, text in sources(root):
         for name, _, _, _, _ in functions(text):
-            if name.endswith("_step"):
+            if name in ("mount_step", "sync_step", "unmount_step"):
                 yield f"{path}: {name}"
 
 
@@ -135,15 +135,16 @@ POINTS = {
     "1c numbers for refusals": refusals,
     "1d bits as numbers 0 and 1": lambda r: [f"{p}: {n}" for p, t in sources(r) for n, q, h, _, _ in functions(t) if re.search(r"\b(?:v|bit): u8\b", q) and "< 2" in h],
     "2 twins": twins,
-    "3 loops by hand": lambda r: list(lines(r, r"\bwhile ")),
+    "3a loops that count by hand": lambda r: list(lines(r, r"\bwhile ")),
+    "3b ranges that are walked by an index": lambda r: list(lines(r, r"\bfor \w+ in [^{]*\.\.")),
     "4a compared through .0": lambda r: list(lines(r, r"[\w.]+\.0 (?:==|!=|<=|<|>=|>) [\w.()]+\.0\b")),
     "4b widened by as": lambda r: list(lines(r, r"\bas u64\b")) + list(lines(r, r"\b(?:x|b|s\[[^\]]*\]) as u32\b")),
     "4c copied, filled, compared, converted by hand": lambda r: [f"{p}: {n}" for p, t in sources(r) for n, _, _, _, _ in functions(t) if n in (
         "wide", "fill", "clear", "put_bytes", "put_same", "word_at", "put_word", "same", "word64", "same_stamp", "one_if", "up_to", "ones_of", "put_zeros")],
     "5a facts in three contracts or more": facts,
     "5b image and geometry together": together,
-    "5c 512 bytes of a sector cut by hand": lambda r: list(lines(r, r"\+ 512;|\+ 128;|\+ 16;")),
-    "6 order and its length": lambda r: [f"{p}: {n}" for p, t in sources(r) for n, q, _, _, _ in functions(t) if re.search(r"order: &(mut )?\[u8; 128\],.*\bn: usize", q)],
+    "5c parts of 512, 128 or 16 bytes cut by hand": lambda r: list(lines(r, r"\+ (?:512|128|16)(?:;|\])")),
+    "6 a buffer and its length": lambda r: [f"{p}: {n}" for p, t in sources(r) for n, q, _, _, _ in functions(t) if re.search(r"order: &.*\b(?:n|last): usize|name: &\[u8\], n: usize|n: u32, b: &\[u8\]", q)],
     "7 step by number": steps,
 }
 

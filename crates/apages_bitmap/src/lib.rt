@@ -12,7 +12,7 @@ ghost use Rattle.counts.specs.Inner.{LaidOut};
 ghost use Rattle.counts.specs.Stamps.{table_in};
 
 use apages::Index;
-use counts::{Geo, Stamp, Standing, View};
+use counts::{Geo, Image, Stamp, Standing, View};
 use entries::Run;
 use sectors::Sector;
 
@@ -81,7 +81,8 @@ fn change_run(img: &mut [u8], g: Geo, v: View, own: Stamp, a: Sector, n: u32, se
     }
     let at = apages_index::group_at(g, a.0 / 4096);
     let x = apages_index::index_of(&img[at..at + 16]);
-    let st = counts_stamps::stands(img, g, v, own, x.stamp);
+    let image = Image { geo: g, bytes: img };
+    let st = counts_stamps::stands(image, v, own, x.stamp);
     change_pair(img, g, st, changed_index(st, own, x), a, n, set)
 }
 

@@ -7,11 +7,11 @@ ghost use Rattle.apages.specs.Index.{index_of, group_bytes, pair_ok, group_ok, e
 ghost use Rattle.apages.specs.Inner.{group_at};
 ghost use Rattle.sectors.specs.Sectors.{sec};
 ghost use Rattle.counts.specs.Geometry.{g_p};
-ghost use Rattle.counts.specs.Inner.{InLimits, LaidOut};
+ghost use Rattle.counts.specs.Inner.{InLimits};
 ghost use Rattle.counts.specs.Stamps.{table_in};
 
 use apages::Index;
-use counts::{CrashCount, Geo, View};
+use counts::{CrashCount, Geo, Image, View};
 use sectors::Sector;
 
 // ---- a group
@@ -59,24 +59,24 @@ fn pair_ok(g: Geo, p: u32, a: Sector, b: Sector) -> bool
 
 // Whether group p passes in a view, with dead stamps below a bound.
 #[tactic(auto, unfolding(apages::specs::Index::index_of, apages::specs::Index::group_ok))]
-fn group_ok(card: &[u8], g: Geo, v: View, bound: CrashCount, p: u32, x: &[u8]) -> bool
-    requires { LaidOut g card.now × ((p < g_p g) × (16 ≤ length x.now)) }
-    ensures { result ≡ group_ok g bound.0 (table_in g v (sec card.now)) p x.now }
+fn group_ok(card: Image, v: View, bound: CrashCount, p: u32, x: &[u8]) -> bool
+    requires { (p < g_p card.geo) × (16 ≤ length x.now) }
+    ensures { result ≡ group_ok card.entry.geo bound.0 (table_in card.entry.geo v (sec card.entry.bytes.now)) p x.now }
 {
     let i = index_of(x);
-    counts_stamps::stamp_ok(g, i.stamp)
-        && counts_stamps::dead_below(card, g, v, bound, i.stamp)
-        && pair_ok(g, p, i.a, i.b)
+    counts_stamps::stamp_ok(card.geo, i.stamp)
+        && counts_stamps::dead_below(card, v, bound, i.stamp)
+        && pair_ok(card.geo, p, i.a, i.b)
 }
 
 // "The index shows apage A when alive, B when dead.": the page that a group shows.
 #[tactic(auto, unfolding(apages::specs::Index::index_of, apages::specs::Index::shown_page, counts::specs::Stamps::showing))]
-pub fn shown_page(card: &[u8], g: Geo, v: View, x: &[u8]) -> Sector
-    requires { LaidOut g card.now × (16 ≤ length x.now) }
-    ensures { result.0 ≡ shown_page (table_in g v (sec card.now)) x.now }
+pub fn shown_page(card: Image, v: View, x: &[u8]) -> Sector
+    requires { 16 ≤ length x.now }
+    ensures { result.0 ≡ shown_page (table_in card.entry.geo v (sec card.entry.bytes.now)) x.now }
 {
     let i = index_of(x);
-    if counts_stamps::alive(card, g, v, i.stamp) {
+    if counts_stamps::alive(card, v, i.stamp) {
         i.a
     } else {
         i.b
@@ -86,21 +86,21 @@ pub fn shown_page(card: &[u8], g: Geo, v: View, x: &[u8]) -> Sector
 // ---- the index sector: "the index holds P groups"
 
 // Whether every group passes.
-fn groups_ok(card: &[u8], g: Geo, v: View, bound: CrashCount, ix: &[u8]) -> bool
-    requires { LaidOut g card.now × (length ix.now ≡ 512) }
-    ensures { result ≡ every_group (group_ok g bound.0 (table_in g v (sec card.now))) ix.now 0 (g_p g) }
+fn groups_ok(card: Image, v: View, bound: CrashCount, ix: &[u8]) -> bool
+    requires { length ix.now ≡ 512 }
+    ensures { result ≡ every_group (group_ok card.entry.geo bound.0 (table_in card.entry.geo v (sec card.entry.bytes.now))) ix.now 0 (g_p card.entry.geo) }
 {
-    (0..counts::pairs(g))
+    (0..counts::pairs(card.geo))
         .zip(ix.as_chunks::<16>().0)
-        .all(|(p, x)| group_ok(card, g, v, bound, p, x))
+        .all(|(p, x)| group_ok(card, v, bound, p, x))
 }
 
 // Whether the index passes in a view, with dead stamps below a bound: each group, and "the rest 0".
 #[tactic(auto, unfolding(apages::specs::Index::index_ok))]
-pub fn index_ok(card: &[u8], g: Geo, v: View, bound: CrashCount, ix: &[u8]) -> bool
-    requires { LaidOut g card.now × (length ix.now ≡ 512) }
-    ensures { result ≡ index_ok g bound.0 (table_in g v (sec card.now)) ix.now }
+pub fn index_ok(card: Image, v: View, bound: CrashCount, ix: &[u8]) -> bool
+    requires { length ix.now ≡ 512 }
+    ensures { result ≡ index_ok card.entry.geo bound.0 (table_in card.entry.geo v (sec card.entry.bytes.now)) ix.now }
 {
-    let from = 16 * (counts::pairs(g) as usize);
-    groups_ok(card, g, v, bound, ix) && words::zeros(&ix[from..])
+    let from = 16 * (counts::pairs(card.geo) as usize);
+    groups_ok(card, v, bound, ix) && words::zeros(&ix[from..])
 }

@@ -5,7 +5,7 @@ ghost use Rattle.std.specs.Prelude.{◌≡◌, true, ◌+◌, ◌*◌, ◌/◌, 
 ghost use Rattle.std.specs.Simd.{first_chunks};
 ghost use Rattle.apages.specs.Bits.{bit_at, clear_bits};
 ghost use Rattle.apages.specs.Inner.{either};
-ghost use Rattle.apages.specs.Ones.{word64_at, ones_of, set_bits, all_set};
+ghost use Rattle.apages.specs.Ones.{word64_at, set_bits, all_set};
 
 // ---- counted
 

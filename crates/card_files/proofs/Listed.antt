@@ -2,16 +2,27 @@
 use mathlib.Core.Path.{◌≡◌, refl, sym, ap, ◌∙◌}
 use mathlib.Core.Bool.{Bool, true, false, not, cond}
 use mathlib.Core.List.{List, [], ◌∷◌}
-use Prim.Native.Nat.{ℕ, suc, ◌+◌, ◌≤◌, ◌<◌}
+use mathlib.Core.Path.{subst}
+use mathlib.Core.Logic.{◌⊎◌, inl, inr}
+use Prim.Native.Nat.{ℕ, zero, suc, ◌+◌, ◌*◌, ◌≤◌, ◌<◌}
+use native.Mathlib.Omega.{arith}
 use native.Mathlib.Numerals.{add-one}
-use lib.ListN.{length, drop, get_or, drop_of_length-le, length-map}
-use lib.Seq.{drop-cons}
+use lib.ListN.{length, take, drop, length-drop, get_or, drop_of_length-le, length-map}
+use lib.Seq.{drop-cons, length-take-le}
 use denote.Ref.{Bor}
 use Rattle.std.specs.Prelude.{map, filter, count_by, slice_get, Option, Some, None}
-use Rattle.std.specs.Option.{option_map, MatchOption, IsSomeAnd}
-use Rattle.std.proofs.lemmas.Option.{slice_get-map}
+use Rattle.std.specs.Option.{option_map}
+use Rattle.std.specs.List.{All}
+use Rattle.std.proofs.lemmas.List.Elements.{All-filter}
+use Rattle.std.proofs.lemmas.Option.{slice_get-map, slice_get_cases, none-some, same_Some}
 use Rattle.std.proofs.lemmas.List.Sums.{length-filter}
 use Rattle.words.specs.Bytes.{word_at}
+use Rattle.sectors.specs.Sectors.{sec}
+use Rattle.counts.specs.declared.Geo.{Geo}
+use Rattle.counts.specs.Inner.{LaidOut}
+use Rattle.directory.specs.Directory.{entries_of}
+use Rattle.directory.specs.Inner.{place_of}
+use Rattle.directory.proofs.DirectoryLaws.{entries-length, entry_at}
 use Rattle.entries.specs.declared.Version.{Version}
 use Rattle.entries.specs.declared.Version.TheVariants.{Absent, Present}
 use Rattle.entries.specs.Entries.{shown, is_absent, name_bytes}
@@ -42,15 +53,39 @@ pub count-is : (tab : List ℕ) (es : List (List ℕ)) → count_by (shows tab) 
 count-is tab es = sym (ap length (files-are tab es) ∙ length-map _ (line_shown tab) ∙ length-filter (shows tab) es)
 
 -- what is read off the entry at a position of those that show a file is the line at that position
-pub line-at : (tab : List ℕ) (es : List (List ℕ)) (i : ℕ) {P : Bor (List ℕ) → Line → Type 0} (o : Option (Bor (List ℕ))) (r : Option Line) → option_map (λ p. p.now) o ≡ slice_get (filter (shows tab) es) i
-    → MatchOption o (r ≡ None) (λ p. IsSomeAnd r (P p)) → ((p : Bor (List ℕ)) (l : Line) → P p l → l ≡ line_shown tab p.now) → r ≡ slice_get (files_of tab es) i
-line-at tab es i {P} o r e m f = go o r e m ∙ sym (ap (λ fs. slice_get fs i) (files-are tab es) ∙ slice_get-map (line_shown tab) (filter (shows tab) es) i)
+module _ (tab : List ℕ) (es : List (List ℕ)) (i : ℕ) (o : Option (Bor (List ℕ))) (e : option_map (λ p. p.now) o ≡ slice_get (filter (shows tab) es) i) where
+  pub line-none : o ≡ None → None ≡ slice_get (files_of tab es) i
+  line-none n = sym (ap (λ fs. slice_get fs i) (files-are tab es) ∙ slice_get-map (line_shown tab) (filter (shows tab) es) i ∙ rw (← e, n) refl)
+
+  pub line-some : {p : Bor (List ℕ)} {l : Line} → o ≡ Some p → l ≡ line_shown tab p.now → Some l ≡ slice_get (files_of tab es) i
+  line-some n f = ap Some f ∙ sym (ap (λ fs. slice_get fs i) (files-are tab es) ∙ slice_get-map (line_shown tab) (filter (shows tab) es) i ∙ rw (← e, n) refl)
+
+get_or-any : (es : List (List ℕ)) (k : ℕ) (d e : List ℕ) → k < length es → get_or es k d ≡ get_or es k e
+get_or-any [] k d e h = absurd (omega arith)
+get_or-any (x ∷ es) zero d e h = refl
+get_or-any (x ∷ es) (suc k) d e h = get_or-any es k d e (omega arith)
+
+all-each : (P : List ℕ → Type 0) (es : List (List ℕ)) → ((j : ℕ) → j < length es → P (get_or es j [])) → All P es
+all-each P es h = λ k d l. subst P (get_or-any es k [] d l) (h k l)
+
+one-of : (P : List ℕ → Type 0) (xs : List (List ℕ)) (i : ℕ) {x : List ℕ} → All P xs → slice_get xs i ≡ Some x → P x
+one-of P xs i {x} a e = go (slice_get_cases xs i).1
   where
-    go : (o : Option (Bor (List ℕ))) (r : Option Line) → option_map (λ p. p.now) o ≡ slice_get (filter (shows tab) es) i → MatchOption o (r ≡ None) (λ p. IsSomeAnd r (P p))
-        → r ≡ option_map (line_shown tab) (slice_get (filter (shows tab) es) i)
-    go None r e m = rw (← e) m
-    go (Some p) (Some l) e m = rw (← e) (ap Some (f p l m))
-    go (Some p) None e m = absurd m
+    go : ((y : List ℕ) × (i < length xs) × (slice_get xs i ≡ Some y) × (get_or xs i y ≡ y)) ⊎ ((length xs ≤ i) × (slice_get xs i ≡ None)) → P x
+    go (inl (y, l, s, g)) = subst P (g ∙ same_Some _ _ (sym s ∙ e)) (a i y l)
+    go (inr (l, n)) = absurd (none-some _ (sym n ∙ e))
+
+pub entries-long : (g : Geo) (img : List ℕ) → LaidOut g img → (j : ℕ) → j < length (entries_of g (sec img)) → length (get_or (entries_of g (sec img)) j []) ≡ 128
+entries-long g img laid j h =
+    let k : j < 4 * g.d = omega (arith, entries-length g img) in
+    rw (entry_at g img j k) (length-take-le 128 (drop (place_of g j) img) (omega (arith, length-drop (place_of g j) img, laid.dir, laid.room)))
+
+-- it is one of the entries, and as long as each
+pub shown-long : (tab : List ℕ) (es : List (List ℕ)) (i : ℕ) (o : Option (Bor (List ℕ))) {p : Bor (List ℕ)} → ((j : ℕ) → j < length es → length (get_or es j []) ≡ 128)
+    → option_map (λ q. q.now) o ≡ slice_get (filter (shows tab) es) i → o ≡ Some p → length p.now ≡ 128
+shown-long tab es i o {p} h e n =
+    let P : List ℕ → Type 0 = λ l. length l ≡ 128 in
+    one-of P (filter (shows tab) es) i (All-filter (shows tab) P es (all-each P es h)) (sym e ∙ ap (option_map (λ q. q.now)) n)
 
 -- entry j and those behind it
 module _ (tab : List ℕ) (es : List (List ℕ)) (j : ℕ) (h : j < length es) where

@@ -10,7 +10,7 @@ ghost use Rattle.card.specs.Reading.{read, read_line, read_get};
 use card::{Contents, Line, Refusal};
 use card_files::{clear_in, file_count, get_in, line_in};
 use card_sound::judged;
-use counts::CrashCount;
+use counts::{CrashCount, Image};
 
 // Reads a card that is sound.
 fn read_in(card: &[u8]) -> Contents
@@ -19,11 +19,15 @@ fn read_in(card: &[u8]) -> Contents
 {
     let g = counts::geo_of(card);
     let v = counts::as_is(g);
+    let image = Image {
+        geo: g,
+        bytes: card,
+    };
     Contents {
         c: CrashCount(words::word_at(card, 0)),
         n: counts::crash_counts(g),
-        files: file_count(card, g, v),
-        free: clear_in(card, g, v),
+        files: file_count(image, v),
+        free: clear_in(image, v),
     }
 }
 
@@ -42,7 +46,11 @@ pub fn read_line_in(card: &[u8], i: u32) -> Option<Line>
 {
     let g = counts::geo_of(card);
     let v = counts::as_is(g);
-    line_in(card, g, v, i)
+    let image = Image {
+        geo: g,
+        bytes: card,
+    };
+    line_in(image, v, i)
 }
 
 // The line at a position of a card; refused with 1 or 2.
@@ -60,7 +68,11 @@ fn read_get_in(card: &[u8], name: &[u8], out: &mut [u8]) -> Result<u32, Refusal>
 {
     let g = counts::geo_of(card);
     let v = counts::as_is(g);
-    get_in(card, g, v, name, out)
+    let image = Image {
+        geo: g,
+        bytes: card,
+    };
+    get_in(image, v, name, out)
 }
 
 // Gets a file of a card; refused with 1, 2, 5, 6 or 10.

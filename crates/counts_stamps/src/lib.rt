@@ -4,24 +4,23 @@
 ghost use Rattle.std.specs.Prelude.{◌≡◌, ◌||◌, ◌≤◌, ltb, length, get_or};
 ghost use Rattle.sectors.specs.Sectors.{sec};
 ghost use Rattle.counts.specs.Stamps.{table_in, stamp_of, alive, stamp_ok, dead_below, standing};
-ghost use Rattle.counts.specs.Inner.{InLimits, LaidOut};
+ghost use Rattle.counts.specs.Inner.{InLimits};
 
-use counts::{CrashCount, Geo, Stamp, Standing, TxCount, View};
+use counts::{CrashCount, Geo, Image, Stamp, Standing, TxCount, View};
 
 // ---- the table
 
 // Word cc of the table as a view takes it; 0 past it.
-fn view_word(card: &[u8], g: Geo, v: View, cc: CrashCount) -> TxCount
-    requires { LaidOut g card.now }
-    ensures { result.0 ≡ get_or (table_in g v (sec card.now)) cc.0 0 }
+fn view_word(card: Image, v: View, cc: CrashCount) -> TxCount
+    ensures { result.0 ≡ get_or (table_in card.entry.geo v (sec card.entry.bytes.now)) cc.0 0 }
 {
-    if counts::crash_counts(g) <= cc.0 {
+    if counts::crash_counts(card.geo) <= cc.0 {
         return TxCount(0);
     }
     if cc == v.c {
         return v.t;
     }
-    TxCount(counts::table_word(card, g, cc))
+    TxCount(counts::table_word(card, cc))
 }
 
 // ---- stamps
@@ -40,11 +39,10 @@ pub fn stamp_of(p: &[u8]) -> Stamp
 
 // Whether a stamp is alive in a view.
 #[tactic(auto, unfolding(counts::specs::Stamps::alive))]
-pub fn alive(card: &[u8], g: Geo, v: View, s: Stamp) -> bool
-    requires { LaidOut g card.now }
-    ensures { result ≡ alive (table_in g v (sec card.now)) s }
+pub fn alive(card: Image, v: View, s: Stamp) -> bool
+    ensures { result ≡ alive (table_in card.entry.geo v (sec card.entry.bytes.now)) s }
 {
-    s.txc <= view_word(card, g, v, s.cc)
+    s.txc <= view_word(card, v, s.cc)
 }
 
 // Whether a stamp's counts are in range.
@@ -65,22 +63,20 @@ pub fn below(live: bool, bound: CrashCount, s: Stamp) -> bool
 
 // Whether a stamp, if it is dead in a view, has a crash count below a bound.
 #[tactic(auto, unfolding(counts::specs::Stamps::dead_below))]
-pub fn dead_below(card: &[u8], g: Geo, v: View, bound: CrashCount, s: Stamp) -> bool
-    requires { LaidOut g card.now }
-    ensures { result ≡ dead_below bound.0 (table_in g v (sec card.now)) s }
+pub fn dead_below(card: Image, v: View, bound: CrashCount, s: Stamp) -> bool
+    ensures { result ≡ dead_below bound.0 (table_in card.entry.geo v (sec card.entry.bytes.now)) s }
 {
-    below(alive(card, g, v, s), bound, s)
+    below(alive(card, v, s), bound, s)
 }
 
 // How a stamp stands to the session's own, in a view.
 #[tactic(auto, unfolding(counts::specs::Stamps::standing, counts::specs::Stamps::same_stamp))]
-pub fn stands(card: &[u8], g: Geo, v: View, own: Stamp, s: Stamp) -> Standing
-    requires { LaidOut g card.now }
-    ensures { result ≡ standing (table_in g v (sec card.now)) own s }
+pub fn stands(card: Image, v: View, own: Stamp, s: Stamp) -> Standing
+    ensures { result ≡ standing (table_in card.entry.geo v (sec card.entry.bytes.now)) own s }
 {
     if s == own {
         Standing::Own
-    } else if alive(card, g, v, s) {
+    } else if alive(card, v, s) {
         Standing::Alive
     } else {
         Standing::Dead

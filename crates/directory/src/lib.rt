@@ -9,7 +9,7 @@ ghost use Rattle.entries.specs.Entries.{entry_bytes};
 ghost use Rattle.directory.specs.Directory.{entries_of, spot_of, set_entry};
 ghost use Rattle.directory.specs.Inner.{place_of, Gives};
 
-use counts::Geo;
+use counts::{Geo, Image};
 use entries::Entry;
 use std::slice::ChunksExact;
 
@@ -22,24 +22,23 @@ pub fn place_of(g: Geo, j: usize) -> usize
 }
 
 // The bytes of entry j.
-pub fn entry(card: &[u8], g: Geo, j: usize) -> &[u8]
-    requires { LaidOut g card.now × (j < 4 * g.d) }
-    ensures bytes { result.now ≡ get_or (entries_of g (sec card.now)) j [] }
+pub fn entry(card: Image, j: usize) -> &[u8]
+    requires { j < 4 * card.geo.d }
+    ensures bytes { result.now ≡ get_or (entries_of card.entry.geo (sec card.entry.bytes.now)) j [] }
     ensures len { length result.now ≡ 128 }
 {
-    let at = place_of(g, j);
-    &card[at..at + 128]
+    let at = place_of(card.geo, j);
+    &card.bytes[at..at + 128]
 }
 
 // The bytes of every entry, in order.
-pub fn entries(card: &[u8], g: Geo) -> ChunksExact<'_, u8>
-    requires { LaidOut g card.now }
+pub fn entries(card: Image) -> ChunksExact<'_, u8>
     ensures size { chunks_exact_size result ≡ 128 }
-    ensures len { length (chunks_exact_rest result) ≡ 512 * g.d }
-    ensures gives { Gives result (entries_of g (sec card.now)) }
+    ensures len { length (chunks_exact_rest result) ≡ 512 * card.entry.geo.d }
+    ensures gives { Gives result (entries_of card.entry.geo (sec card.entry.bytes.now)) }
 {
-    let first = counts::dir_first(g).offset();
-    card[first..first + 512 * (g.d as usize)].chunks_exact(128)
+    let first = counts::dir_first(card.geo).offset();
+    card.bytes[first..first + 512 * (card.geo.d as usize)].chunks_exact(128)
 }
 
 // Writes entry j.

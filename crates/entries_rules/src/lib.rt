@@ -5,10 +5,10 @@ ghost use Rattle.std.specs.Prelude.{◌≡◌, ◌&&◌, ◌||◌, length};
 ghost use Rattle.words.specs.Bytes.{word_at};
 ghost use Rattle.sectors.specs.Sectors.{sec};
 ghost use Rattle.counts.specs.Stamps.{table_in};
-ghost use Rattle.counts.specs.Inner.{InLimits, LaidOut};
+ghost use Rattle.counts.specs.Inner.{InLimits};
 ghost use Rattle.entries.specs.Entries.{version_of, is_absent, name_bytes, name_ok, sectors_for, run_ok, version_ok, entry_ok};
 
-use counts::{CrashCount, Geo, View};
+use counts::{CrashCount, Geo, Image, View};
 use entries::Run;
 use sectors::Sector;
 
@@ -67,15 +67,15 @@ fn shown_ok(g: Geo, v: &[u8], p: &[u8]) -> bool
 }
 
 // Whether an entry passes in a view. Whether it is alive is looked up once.
-pub fn entry_ok(card: &[u8], g: Geo, v: View, bound: CrashCount, p: &[u8]) -> bool
-    requires { LaidOut g card.now × (length p.now ≡ 128) }
-    ensures { result ≡ entry_ok g bound.0 (table_in g v (sec card.now)) p.now }
+pub fn entry_ok(card: Image, v: View, bound: CrashCount, p: &[u8]) -> bool
+    requires { length p.now ≡ 128 }
+    ensures { result ≡ entry_ok card.entry.geo bound.0 (table_in card.entry.geo v (sec card.entry.bytes.now)) p.now }
 {
     let s = counts_stamps::stamp_of(p);
-    let live = counts_stamps::alive(card, g, v, s);
+    let live = counts_stamps::alive(card, v, s);
     let at = entries_shown::new_or_old(live);
-    counts_stamps::stamp_ok(g, s)
+    counts_stamps::stamp_ok(card.geo, s)
         && counts_stamps::below(live, bound, s)
         && words::zeros(&p[76..])
-        && shown_ok(g, &p[at..at + 16], p)
+        && shown_ok(card.geo, &p[at..at + 16], p)
 }

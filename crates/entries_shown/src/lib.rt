@@ -4,10 +4,9 @@
 ghost use Rattle.std.specs.Prelude.{◌≡◌, cond, ◌+◌, ◌≤◌, length, take, drop};
 ghost use Rattle.sectors.specs.Sectors.{sec};
 ghost use Rattle.counts.specs.Stamps.{table_in};
-ghost use Rattle.counts.specs.Inner.{LaidOut};
 ghost use Rattle.entries.specs.Entries.{entry_of, shown};
 
-use counts::{Geo, View};
+use counts::{Image, View};
 use entries::{Entry, Version, name_at, version_of};
 
 // The entry that 128 bytes are.
@@ -41,11 +40,11 @@ pub fn new_or_old(live: bool) -> usize
 }
 
 // The version that an entry shows in a view.
-pub fn shown(card: &[u8], g: Geo, v: View, p: &[u8]) -> Version
-    requires { LaidOut g card.now × (length p.now ≡ 128) }
-    ensures { result ≡ shown (table_in g v (sec card.now)) p.now }
+pub fn shown(card: Image, v: View, p: &[u8]) -> Version
+    requires { length p.now ≡ 128 }
+    ensures { result ≡ shown (table_in card.entry.geo v (sec card.entry.bytes.now)) p.now }
 {
-    let live = counts_stamps::alive(card, g, v, counts_stamps::stamp_of(p));
+    let live = counts_stamps::alive(card, v, counts_stamps::stamp_of(p));
     let at = new_or_old(live);
     version_of(&p[at..at + 16])
 }

@@ -8,7 +8,7 @@ ghost use Rattle.counts.specs.Inner.{InLimits, LaidOut};
 ghost use Rattle.directory.specs.Directory.{entries_of};
 ghost use Rattle.session.specs.Fits.{sizes_ok, head_ok, word_ok, stamp_at_most, entry_at_most, index_at_most};
 
-use counts::{Stamp, TxCount};
+use counts::{Image, Stamp, TxCount};
 use session::Opened;
 
 // Whether the geometry is inside the limits, c and t are in range, and the working image has its length.
@@ -68,7 +68,11 @@ pub fn entries_at_most(s: Opened, work: &[u8]) -> bool
     requires { LaidOut s.geo work.now }
     ensures { result ≡ every (entry_at_most s) (entries_of s.geo (sec work.now)) }
 {
-    directory::entries(work, s.geo).all(|p| entry_at_most(s, p))
+    let image = Image {
+        geo: s.geo,
+        bytes: work,
+    };
+    directory::entries(image).all(|p| entry_at_most(s, p))
 }
 
 // The same of every group of the index.

@@ -6,7 +6,7 @@ ghost use Rattle.sectors.specs.Sectors.{sec};
 ghost use Rattle.counts.specs.Inner.{LaidOut};
 ghost use Rattle.session.specs.Fits.{table_fits, views_fit, stamps_fit, fits};
 
-use counts::CrashCount;
+use counts::{CrashCount, Image};
 use sectors::Sector;
 use session::Opened;
 
@@ -19,9 +19,13 @@ fn table_fits(s: Opened, work: &[u8]) -> bool
     if !session_agree::head_ok(s, work) {
         return false;
     }
-    let past = counts_table::zero_past(work, s.geo, s.c);
-    session_agree::word_ok(s.worn, s.t, counts::table_word(work, s.geo, s.c))
-        && counts_table::table_max(work, s.geo, s.c, past)
+    let image = Image {
+        geo: s.geo,
+        bytes: work,
+    };
+    let past = counts_table::zero_past(image, s.c);
+    session_agree::word_ok(s.worn, s.t, counts::table_word(image, s.c))
+        && counts_table::table_max(image, s.c, past)
         && past
 }
 
@@ -33,10 +37,14 @@ fn views_fit(s: Opened, work: &[u8]) -> bool
     let present = session::present_view(s);
     let cut = counts::as_is(s.geo);
     let n = CrashCount(counts::crash_counts(s.geo));
+    let image = Image {
+        geo: s.geo,
+        bytes: work,
+    };
     let mut scratch = [0; 128];
-    card_sound::view_ok(work, s.geo, present, s.c, &mut scratch)
-        && card_sound::view_ok(work, s.geo, cut, n, &mut scratch)
-        && directory_rules::names_ok(work, s.geo, present, cut, &mut scratch)
+    card_sound::view_ok(image, present, s.c, &mut scratch)
+        && card_sound::view_ok(image, cut, n, &mut scratch)
+        && directory_rules::names_ok(image, present, cut, &mut scratch)
 }
 
 // Whether every stamp at c has txc at most t.

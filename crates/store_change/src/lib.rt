@@ -14,6 +14,7 @@ ghost use Rattle.store.specs.Edit.{put_content, edit_work, put_run, put_work, re
 ghost use Rattle.store.specs.Inner.{CanEdit};
 
 use card_files::{run_at, run_of};
+use counts::Image;
 use entries::{Entry, Run, Version};
 use sectors::Sector;
 use session::{Opened, own_stamp, present_view};
@@ -38,7 +39,11 @@ fn changed_entry(s: Opened, work: &[u8], name: &[u8], j: usize, v: Version) -> E
 {
     let e = entries_shown::entry_at(work, directory::place_of(s.geo, j));
     let own = own_stamp(s);
-    let standing = counts_stamps::stands(work, s.geo, present_view(s), own, e.stamp);
+    let image = Image {
+        geo: s.geo,
+        bytes: work,
+    };
+    let standing = counts_stamps::stands(image, present_view(s), own, e.stamp);
     entries::changed(standing, own, e, name, v)
 }
 
@@ -51,7 +56,11 @@ fn edit(s: Opened, work: &mut [u8], name: &[u8], content: &[u8], j: usize, v: Ve
     let own = own_stamp(s);
     let present = present_view(s);
     let run = run_of(v);
-    let earlier = run_at(work, s.geo, present, j);
+    let image = Image {
+        geo: s.geo,
+        bytes: work,
+    };
+    let earlier = run_at(image, present, j);
     let e = changed_entry(s, work, name, j, v);
     put_content(work, run, content);
     directory::set_entry(work, s.geo, j, e);

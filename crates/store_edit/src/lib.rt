@@ -10,6 +10,7 @@ ghost use Rattle.store.specs.Edit.{put_at, put, remove};
 ghost use Rattle.store.specs.Inner.{FitOf};
 
 use card::Refusal;
+use counts::Image;
 use directory_search::find_name;
 use entries_names::good_name;
 use sectors::Sector;
@@ -98,7 +99,11 @@ pub fn remove_fitting(session: Session, work: &mut [u8], name: &[u8]) -> Result<
         return Err(Refusal::BadName);
     }
     let present = present_view(s);
-    let j = find_name(work, s.geo, present, present, name).ok_or(Refusal::NoFile)?;
+    let image = Image {
+        geo: s.geo,
+        bytes: work,
+    };
+    let j = find_name(image, present, present, name).ok_or(Refusal::NoFile)?;
     remove_in(s, work, name, j);
     Ok(())
 }

@@ -4,13 +4,12 @@
 ghost use Rattle.std.specs.Prelude.{◌≡◌, ◌+◌, ◌*◌, ◌%◌, ◌≤◌, length};
 ghost use Rattle.sectors.specs.Sectors.{sec};
 ghost use Rattle.counts.specs.Stamps.{table_in};
-ghost use Rattle.counts.specs.Inner.{LaidOut};
 ghost use Rattle.apages.specs.Free.{free_in, waiting_in};
 ghost use Rattle.apages.specs.Index.{page_in};
 ghost use Rattle.apages.specs.Inner.{PairIn};
 
 use card_files::page_at;
-use counts::{Geo, View};
+use counts::{Image, View};
 use sectors::sector_at;
 use store::Figures;
 
@@ -28,16 +27,16 @@ fn count(p: &[u8], q: &[u8]) -> Figures
 }
 
 // Both figures of the maps that two views show: free is clear in both, waiting is clear in the first and set in the second.
-pub fn figures_in(img: &[u8], g: Geo, v: View, w: View) -> Figures
-    requires { LaidOut g img.now × PairIn g img.now }
-    ensures { result ≡ record { free = free_in (page_in g (table_in g v (sec img.now)) (sec img.now)) (page_in g (table_in g w (sec img.now)) (sec img.now)); waiting = waiting_in (page_in g (table_in g v (sec img.now)) (sec img.now)) (page_in g (table_in g w (sec img.now)) (sec img.now)) } }
+pub fn figures_in(img: Image, v: View, w: View) -> Figures
+    requires { PairIn img.geo img.bytes.now }
+    ensures { result ≡ record { free = free_in (page_in img.entry.geo (table_in img.entry.geo v (sec img.entry.bytes.now)) (sec img.entry.bytes.now)) (page_in img.entry.geo (table_in img.entry.geo w (sec img.entry.bytes.now)) (sec img.entry.bytes.now)); waiting = waiting_in (page_in img.entry.geo (table_in img.entry.geo v (sec img.entry.bytes.now)) (sec img.entry.bytes.now)) (page_in img.entry.geo (table_in img.entry.geo w (sec img.entry.bytes.now)) (sec img.entry.bytes.now)) } }
 {
     let mut free = 0;
     let mut waiting = 0;
-    for p in 0..counts::pairs(g) {
-        let first = page_at(img, g, v, p);
-        let second = page_at(img, g, w, p);
-        let page = count(sector_at(img, first), sector_at(img, second));
+    for p in 0..counts::pairs(img.geo) {
+        let first = page_at(img, v, p);
+        let second = page_at(img, w, p);
+        let page = count(sector_at(img.bytes, first), sector_at(img.bytes, second));
         free += page.free;
         waiting += page.waiting;
     }

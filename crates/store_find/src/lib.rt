@@ -15,7 +15,7 @@ ghost use Rattle.store.specs.Edit.{place_in, run_in};
 ghost use Rattle.store_find.specs.Inner.{IsPages, found_of};
 
 use card_files::page_at;
-use counts::{Geo, View};
+use counts::{Geo, Image, View};
 use sectors::{Sector, sector_at};
 use session::{Opened, present_view};
 
@@ -34,8 +34,15 @@ pub fn put_place(s: Opened, work: &[u8], name: &[u8]) -> Option<usize>
 {
     let present = present_view(s);
     let cut = counts::as_is(s.geo);
-    let by_name = directory_search::find_name(work, s.geo, present, cut, name);
-    by_name.or_else(|| directory_search::find_free(work, s.geo, present, cut))
+    let image = Image {
+        geo: s.geo,
+        bytes: work,
+    };
+    // A match, since the check learns nothing of a closure that captures an Image.
+    match directory_search::find_name(image, present, cut, name) {
+        Some(j) => Some(j),
+        None => directory_search::find_free(image, present, cut),
+    }
 }
 
 // The pages of pair p.
@@ -43,10 +50,14 @@ fn pages_at(work: &[u8], g: Geo, v: View, w: View, p: u32) -> Pages
     requires { LaidOut g work.now × (p < g_p g) }
     ensures { IsPages g (table_in g v (sec work.now)) (table_in g w (sec work.now)) (sec work.now) result × (result.pair ≡ p) }
 {
+    let image = Image {
+        geo: g,
+        bytes: work,
+    };
     Pages {
         pair: p,
-        a: page_at(work, g, v, p),
-        b: page_at(work, g, w, p),
+        a: page_at(image, v, p),
+        b: page_at(image, w, p),
     }
 }
 

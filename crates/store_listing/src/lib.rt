@@ -5,7 +5,6 @@
 #![tactic(auto)]
 
 ghost use Rattle.std.specs.Prelude.{◌≡◌, ◌≤◌, Ok, length};
-ghost use Rattle.counts.specs.Inner.{LaidOut};
 ghost use Rattle.card.specs.Answers.{counted};
 ghost use Rattle.card.specs.Reading.{read_list};
 ghost use Rattle.store.specs.Inner.{FitOf};
@@ -16,7 +15,7 @@ ghost use Rattle.store_listing.specs.Inner.{HasRoom};
 use card::{Line, Refusal};
 use card_files::{file_count, next_line};
 use card_sound::judged;
-use counts::{Geo, View};
+use counts::{Geo, Image, View};
 use session::Session;
 use session_unfit::unfit;
 
@@ -29,17 +28,16 @@ pub struct ViewList {
 }
 
 // The listing of a view for a table of `room` lines: refused with 10 where it is too short.
-fn listing_in(img: &[u8], g: Geo, v: View, room: usize) -> Result<ViewList, Refusal>
-    requires { LaidOut g img.now }
-    ensures { listing_of result ≡ listing_in g v img.now room }
+fn listing_in(img: Image, v: View, room: usize) -> Result<ViewList, Refusal>
+    ensures { listing_of result ≡ listing_in img.entry.geo v img.entry.bytes.now room }
 {
-    let n = file_count(img, g, v);
+    let n = file_count(img, v);
     if room < (n as usize) {
         return Err(Refusal::ShortOutput);
     }
     Ok(ViewList {
         count: n,
-        geo: g,
+        geo: img.geo,
         view: v,
     })
 }
@@ -50,7 +48,11 @@ fn session_listing(session: Session, work: &[u8], room: usize) -> Result<ViewLis
     ensures { listing_of result ≡ session_listing session work.now room }
 {
     let s = session.ok_or(Refusal::Closed)?;
-    listing_in(work, s.geo, session::present_view(s), room)
+    let image = Image {
+        geo: s.geo,
+        bytes: work,
+    };
+    listing_in(image, session::present_view(s), room)
 }
 
 // The listing of a card: refused with "1, 2, 10".
@@ -59,7 +61,11 @@ fn card_listing(card: &[u8], room: usize) -> Result<ViewList, Refusal>
 {
     judged(card)?;
     let g = counts::geo_of(card);
-    listing_in(card, g, counts::as_is(g), room)
+    let image = Image {
+        geo: g,
+        bytes: card,
+    };
+    listing_in(image, counts::as_is(g), room)
 }
 
 // Fills the first lines of the table, one line a file, each from the entry after the last one's; later lines stay.
@@ -69,7 +75,11 @@ fn fill_lines(img: &[u8], l: ViewList, lines: &mut [Line])
 {
     let mut from = 0;
     for i in 0..l.count as usize {
-        let next = next_line(img, l.geo, l.view, from).unwrap();
+        let image = Image {
+            geo: l.geo,
+            bytes: img,
+        };
+        let next = next_line(image, l.view, from).unwrap();
         lines[i] = next.line;
         from = next.after;
     }

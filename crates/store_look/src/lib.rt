@@ -12,6 +12,7 @@ ghost use Rattle.store.specs.Inner.{FitOf, unfit};
 
 use card::{Line, Refusal};
 use card_files::{get_in, line_in};
+use counts::Image;
 use session::{Session, present_view};
 use session_unfit::unfit;
 use store::Figures;
@@ -37,7 +38,11 @@ pub fn free_fitting(session: Session, work: &[u8]) -> Result<Figures, Refusal>
     let s = session.ok_or(Refusal::Closed)?;
     let present = present_view(s);
     let cut = counts::as_is(s.geo);
-    Ok(figures_in(work, s.geo, present, cut))
+    let image = Image {
+        geo: s.geo,
+        bytes: work,
+    };
+    Ok(figures_in(image, present, cut))
 }
 
 // "free 4, 2": the sectors clear in both views, and those that the next sync releases.
@@ -57,7 +62,11 @@ pub fn line_fitting(session: Session, work: &[u8], i: u32) -> Result<Option<Line
 {
     let s = session.ok_or(Refusal::Closed)?;
     let present = present_view(s);
-    Ok(line_in(work, s.geo, present, i))
+    let image = Image {
+        geo: s.geo,
+        bytes: work,
+    };
+    Ok(line_in(image, present, i))
 }
 
 // "4, 2": the line at a position, where there is one.
@@ -82,7 +91,11 @@ pub fn get_fitting(
 {
     let s = session.ok_or(Refusal::Closed)?;
     let present = present_view(s);
-    get_in(work, s.geo, present, name, out)
+    let image = Image {
+        geo: s.geo,
+        bytes: work,
+    };
+    get_in(image, present, name, out)
 }
 
 // "get 4, 2, 5, 6, 10"

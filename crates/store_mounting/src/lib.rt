@@ -10,7 +10,7 @@ ghost use Rattle.store.specs.Steps.{set_count, set_word, mount_steps};
 ghost use Rattle.store.specs.Mount.{opened_from, mount_done};
 ghost use Rattle.store.specs.Inner.{CanMount};
 
-use counts::{CrashCount, TxCount};
+use counts::{CrashCount, Image, TxCount};
 use sectors::Sector;
 use session::Opened;
 
@@ -81,10 +81,11 @@ fn opened_from(card: &[u8]) -> Opened
 {
     let geo = counts::geo_of(card);
     let c = CrashCount(words::word_at(card, 0));
+    let image = Image { geo, bytes: card };
     Opened {
         geo,
         c,
-        t: TxCount(counts::table_word(card, geo, c) + 1),
+        t: TxCount(counts::table_word(image, c) + 1),
         worn: false,
     }
 }

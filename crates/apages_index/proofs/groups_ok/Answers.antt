@@ -19,7 +19,7 @@ returns c =
     let a = c.args in
     let ix = a.ix.now in
     let n = c.pairs.result in
-    let ok = group_ok a.g a.bound.0 (table_in a.g a.v (sec a.card.now)) in
+    let ok = group_ok a.card.geo a.bound.0 (table_in a.card.geo a.v (sec a.card.bytes.now)) in
     let numbers = YieldsList-at c.zip.ensures.first (YieldsList-from_range 0 n n refl (omega arith)) in
     let groups = YieldsList-from_slice (first_chunks 16 (length ix / 16) ix) (c.zip.ensures.second.0 ∙ c.as_chunks.ensures.front) in
     all_from_yields_List (λ w. ok w.0 w.1) c.all.new.self _ _ c.all.ensures.ran (YieldsList-from_zip numbers groups) (λ x b q k. search rules)

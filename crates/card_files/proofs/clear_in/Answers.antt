@@ -7,7 +7,7 @@ pub loop-p-init : goal.loop-p-init
 loop-p-init c = (clear-start _ _ _, omega arith)
 
 pub sector_at-requires : goal.sector_at-requires
-sector_at-requires c = page-room _ _ _ _ c.requires.0 (omega arith) c.requires.1 c.page_at-page.ensures
+sector_at-requires c = page-room _ _ _ _ c.args.card.laid (omega arith) c.requires c.page_at-page.ensures
 
 pub overflow_add-clear : goal.overflow_add-clear
 overflow_add-clear c = omega (arith, clear-page _ c.sector_at.ensures.len c.count_clear-clear.ensures)

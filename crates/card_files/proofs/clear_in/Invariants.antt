@@ -9,4 +9,4 @@ use Rattle.apages.specs.Index.{map_from, page_in}
 use Rattle.card_files.proofs.clear_in.Given as goal
 
 abbrev pub invariant-loop-p : goal.invariant-loop-p
-invariant-loop-p l = (l.clear + clear_bits (map_from l.g (table_in l.g l.v (sec l.card)) (sec l.card) l.p (g_p l.g - l.p)) ≡ clear_bits (page_in l.g (table_in l.g l.v (sec l.card)) (sec l.card))) × (l.clear ≤ 4096 * l.p)
+invariant-loop-p l = (l.clear + clear_bits (map_from l.card.geo (table_in l.card.geo l.v (sec l.card.bytes.now)) (sec l.card.bytes.now) l.p (g_p l.card.geo - l.p)) ≡ clear_bits (page_in l.card.geo (table_in l.card.geo l.v (sec l.card.bytes.now)) (sec l.card.bytes.now))) × (l.clear ≤ 4096 * l.p)

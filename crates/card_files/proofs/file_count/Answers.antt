@@ -9,5 +9,5 @@ use Rattle.card_files.proofs.file_count.Goals as goal
 
 pub returns : goal.returns
 returns c =
-    count-of (shows (table_in c.args.g c.args.v (sec c.args.card.now))) c.entries.ensures.gives (λ x b q h. search rules) c.filter.ensures.source c.filter.ensures.closure c.count.ensures.ran
+    count-of (shows (table_in c.args.card.geo c.args.v (sec c.args.card.bytes.now))) c.entries.ensures.gives (λ x b q h. search rules) c.filter.ensures.source c.filter.ensures.closure c.count.ensures.ran
     ∙ count-is _ _

@@ -17,7 +17,7 @@ returns-in_err-j c =
     rw (p.1, p.2, k) (got-none _ _ _ _ _ c.if-not-good_name.ensures (sym c.find_name.ensures ∙ c.in_err-j.ensures.ok_part))
 
 pub get_at-requires : goal.get_at-requires
-get_at-requires c = (c.requires.0, (c.requires.1.0, (found_lt _ _ _ _ c.find_name.ensures c.in_ok-j.ensures.ok_part (entries-length _ _), c.requires.1.1)))
+get_at-requires c = (c.requires.0, (found_lt _ _ _ _ c.find_name.ensures c.in_ok-j.ensures.ok_part (entries-length _ _), c.requires.1))
 
 pub returns : goal.returns
 returns c = got-found _ _ _ _ _ c.if-not-good_name.ensures _ (sym c.find_name.ensures ∙ c.in_ok-j.ensures.ok_part) c.get_at.ensures

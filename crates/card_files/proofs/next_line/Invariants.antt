@@ -8,4 +8,4 @@ use Rattle.card.specs.Files.{files_of}
 use Rattle.card_files.proofs.next_line.Given as goal
 
 abbrev pub invariant-loop-j : goal.invariant-loop-j
-invariant-loop-j l = files_of (table_in l.g l.v (sec l.card)) (drop l.from (entries_of l.g (sec l.card))) ≡ files_of (table_in l.g l.v (sec l.card)) (drop l.j (entries_of l.g (sec l.card)))
+invariant-loop-j l = files_of (table_in l.card.geo l.v (sec l.card.bytes.now)) (drop l.from (entries_of l.card.geo (sec l.card.bytes.now))) ≡ files_of (table_in l.card.geo l.v (sec l.card.bytes.now)) (drop l.j (entries_of l.card.geo (sec l.card.bytes.now)))

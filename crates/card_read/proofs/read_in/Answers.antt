@@ -16,11 +16,11 @@ word_at-requires c = let l = shape-length _ c.requires.0 in omega arith
 pub crash_counts-requires : goal.crash_counts-requires
 crash_counts-requires c = (shape-limits _ _ c.geo_of-g.ensures c.requires.0).t
 
-pub file_count-requires : goal.file_count-requires
-file_count-requires c = shape-laid _ _ c.geo_of-g.ensures c.requires.0
+pub invariant_of-image : goal.invariant_of-image
+invariant_of-image c = record { laid = shape-laid _ _ c.geo_of-g.ensures c.requires.0 }
 
 pub clear_in-requires : goal.clear_in-requires
-clear_in-requires c = (shape-laid _ _ c.geo_of-g.ensures c.requires.0, sound-pair _ _ c.geo_of-g.ensures c.as_is-v.ensures c.requires.0 c.requires.1)
+clear_in-requires c = sound-pair _ _ c.geo_of-g.ensures c.as_is-v.ensures c.requires.0 c.requires.1
 
 pub returns : goal.returns
 returns c = read_done _ c.requires.0 c.requires.1 _ _ c.geo_of-g.ensures c.as_is-v.ensures c.word_at.ensures c.crash_counts.ensures c.file_count.ensures c.clear_in.ensures

@@ -9,8 +9,8 @@ geo_of-g-requires c = shape-length _ c.requires.0
 pub as_is-v-requires : goal.as_is-v-requires
 as_is-v-requires c = shape-limits _ _ c.geo_of-g.ensures c.requires.0
 
-pub line_in-requires : goal.line_in-requires
-line_in-requires c = shape-laid _ _ c.geo_of-g.ensures c.requires.0
+pub invariant_of-image : goal.invariant_of-image
+invariant_of-image c = record { laid = shape-laid _ _ c.geo_of-g.ensures c.requires.0 }
 
 pub returns : goal.returns
 returns c = line-done _ c.requires.0 c.requires.1 _ _ c.geo_of-g.ensures c.as_is-v.ensures _ c.line_in.ensures

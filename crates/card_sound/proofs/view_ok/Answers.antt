@@ -13,7 +13,7 @@ pages_ok-requires c =
     elim c.if-index_ok.branch [
       | then-index_ok w ↦
           let passed : w.entries_ok.result ≡ true = cc in
-          (c.requires, (view-pair _ _ _ _ e (ap not w.if-index_ok.true), view-runs _ _ _ _ w.entries_ok.ensures (ap not passed)))
+          (c.args.card.laid, (view-pair _ _ _ _ e (ap not w.if-index_ok.true), view-runs _ _ _ _ w.entries_ok.ensures (ap not passed)))
       | else-index_ok w ↦ absurd (cc)
     ]
 

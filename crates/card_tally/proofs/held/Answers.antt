@@ -9,7 +9,7 @@ pub returns-then-k-eq0 : goal.returns-then-k-eq0
 returns-then-k-eq0 c = held_none _ _ c.if-k-eq0.true
 
 pub page_held-requires : goal.page_held-requires
-page_held-requires c = (page-room _ _ _ _ c.requires.0 (omega (arith, c.requires.1.1.1 (omega (arith, c.if-k-eq0.false)))) c.requires.1.0 c.page_at-page.ensures, c.requires.1.1.0)
+page_held-requires c = (page-room _ _ _ _ c.args.card.laid (omega (arith, c.requires.1.1 (omega (arith, c.if-k-eq0.false)))) c.requires.0 c.page_at-page.ensures, c.requires.1.0)
 
 pub returns : goal.returns
-returns c = held-lent _ _ _ c.requires.0 c.requires.1.0 _ _ (omega (arith, c.requires.1.1.1 (omega (arith, c.if-k-eq0.false)))) c.requires.1.1.0 c.page_at-page.ensures (rw (← sec-part) at c.page_held.ensures)
+returns c = held-lent _ _ _ c.args.card.laid c.requires.0 _ _ (omega (arith, c.requires.1.1 (omega (arith, c.if-k-eq0.false)))) c.requires.1.0 c.page_at-page.ensures (rw (← sec-part) at c.page_held.ensures)

@@ -6,13 +6,13 @@ use Rattle.card.proofs.TallyPages.{clear-fits, tally-pages, last-page}
 use Rattle.card_tally.proofs.pages_ok.Goals as goal
 
 pub held-low-requires : goal.held-low-requires
-held-low-requires c = (c.requires.0, (c.requires.1.0, (omega (arith, c.data_first-first.ensures.1), λ h. omega (arith, c.requires.0.past, dir-is c.args.g))))
+held-low-requires c = (c.requires.1.0, (omega (arith, c.data_first-first.ensures.1), λ h. omega (arith, c.requires.0.past, dir-is c.args.g)))
 
 pub overflow_sub-bits : goal.overflow_sub-bits
 overflow_sub-bits c = omega (arith, pages-cover c.args.g, c.pairs-bits.ensures.0)
 
 pub held-high-requires : goal.held-high-requires
-held-high-requires c = let n = c.pairs-bits.ensures.0 in (c.requires.0, (c.requires.1.0, (last-page c.args.g n, λ h. omega (arith, n))))
+held-high-requires c = let n = c.pairs-bits.ensures.0 in (c.requires.1.0, (last-page c.args.g n, λ h. omega (arith, n)))
 
 pub overflow_sub-ones : goal.overflow_sub-ones
 overflow_sub-ones c = clear-fits c.args.g _ _ c.requires.0 c.requires.1.0 c.clear_in.ensures c.pairs-bits.ensures.0

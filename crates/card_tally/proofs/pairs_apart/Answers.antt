@@ -19,7 +19,7 @@ use Rattle.card_tally.proofs.pairs_apart.Goals.{then-low-r, else-low-r}
 
 pub loop-i-init : goal.loop-i-init
 loop-i-init c =
-    let g = c.args.g in
+    let g = c.args.card.geo in
     (search rules, search rules, sym (pair_end _ _ [] _ (entries-le g _ (4 * g.d) (omega arith)) refl), λ j a b. absurd (omega arith))
 
 pub loop-i-preserved-then-r-eq0 : goal.loop-i-preserved-then-r-eq0
@@ -27,47 +27,47 @@ unfolding run_at
 loop-i-preserved-then-r-eq0 c =
     let a = c.args in
     let P = c.requires in
-    let tab = table_in a.g a.v (sec a.card.now) in
-    let es = entries_of a.g (sec a.card.now) in
+    let tab = table_in a.card.geo a.v (sec a.card.bytes.now) in
+    let es = entries_of a.card.geo (sec a.card.bytes.now) in
     let now-at = c.loop-i in
     let next : now-at.i ≡ now-at.i - 1 + 1 = omega (arith, c.loop-i-test.true) in
-    let l = entries-lt a.g a.card.now (now-at.i - 1) (omega (arith, now-at.invariant.0, now-at.invariant.1, c.loop-i-test.true)) in
+    let l = entries-lt a.card.geo a.card.bytes.now (now-at.i - 1) (omega (arith, now-at.invariant.0, now-at.invariant.1, c.loop-i-test.true)) in
     let z = c.if-r-eq0.true in
     let done = now-at.invariant.2 in
-    (omega arith, now-at.invariant.1, empty-row a.g tab es P.1 _ _ next l _ c.run_at-r.ensures done z, empty-rising a.g tab es P.1 _ _ next l _ c.run_at-r.ensures done _ _ z now-at.invariant.3)
+    (omega arith, now-at.invariant.1, empty-row a.card.geo tab es P _ _ next l _ c.run_at-r.ensures done z, empty-rising a.card.geo tab es P _ _ next l _ c.run_at-r.ensures done _ _ z now-at.invariant.3)
 
 pub overflow_add-r : goal.overflow_add-r
-overflow_add-r c = omega (arith, c.requires.0.s, run-room _ _ _ c.requires.1 (omega arith) c.run_at-r.ensures)
+overflow_add-r c = omega (arith, c.args.card.laid.s, run-room _ _ _ c.requires (omega arith) c.run_at-r.ensures)
 
 pub parted_from-requires : goal.parted_from-requires
 parted_from-requires c =
     let o = c.loop-i.invariant in
-    (c.requires.0, (run-room _ _ _ c.requires.1 (omega arith) c.run_at-r.ensures, (elim c.if-low-r.branch [ then-low-r w ↦ omega (arith, w.rest-is) | else-low-r w ↦ omega (arith, o.1, w.rest-is) ], c.requires.1)))
+    (run-room _ _ _ c.requires (omega arith) c.run_at-r.ensures, (elim c.if-low-r.branch [ then-low-r w ↦ omega (arith, w.rest-is) | else-low-r w ↦ omega (arith, o.1, w.rest-is) ], c.requires))
 
 pub returns-then-not-parted_from : goal.returns-then-not-parted_from
 unfolding run_at
 returns-then-not-parted_from c =
     let a = c.args in
     let P = c.requires in
-    let tab = table_in a.g a.v (sec a.card.now) in
-    let es = entries_of a.g (sec a.card.now) in
+    let tab = table_in a.card.geo a.v (sec a.card.bytes.now) in
+    let es = entries_of a.card.geo (sec a.card.bytes.now) in
     let now-at = c.loop-i in
     let next : now-at.i ≡ now-at.i - 1 + 1 = omega (arith, c.loop-i-test.true) in
-    let l = entries-lt a.g a.card.now (now-at.i - 1) (omega (arith, now-at.invariant.0, now-at.invariant.1, c.loop-i-test.true)) in
-    row-stop a.g tab es P.1 _ _ next l _ c.run_at-r.ensures now-at.invariant.2 _ _ _ now-at.invariant.0 now-at.invariant.3 (elim c.if-low-r.branch [ then-low-r w ↦ inl (w.if-low-r.true, w.rest-is) | else-low-r w ↦ inr (w.if-low-r.false, w.rest-is) ]) c.parted_from.ensures (ap not c.if-not-parted_from.true)
+    let l = entries-lt a.card.geo a.card.bytes.now (now-at.i - 1) (omega (arith, now-at.invariant.0, now-at.invariant.1, c.loop-i-test.true)) in
+    row-stop a.card.geo tab es P _ _ next l _ c.run_at-r.ensures now-at.invariant.2 _ _ _ now-at.invariant.0 now-at.invariant.3 (elim c.if-low-r.branch [ then-low-r w ↦ inl (w.if-low-r.true, w.rest-is) | else-low-r w ↦ inr (w.if-low-r.false, w.rest-is) ]) c.parted_from.ensures (ap not c.if-not-parted_from.true)
 
 pub loop-i-preserved : goal.loop-i-preserved
 unfolding run_at
 loop-i-preserved c =
     let a = c.args in
     let P = c.requires in
-    let tab = table_in a.g a.v (sec a.card.now) in
-    let es = entries_of a.g (sec a.card.now) in
+    let tab = table_in a.card.geo a.v (sec a.card.bytes.now) in
+    let es = entries_of a.card.geo (sec a.card.bytes.now) in
     let now-at = c.loop-i in
     let next : now-at.i ≡ now-at.i - 1 + 1 = omega (arith, c.loop-i-test.true) in
-    let l = entries-lt a.g a.card.now (now-at.i - 1) (omega (arith, now-at.invariant.0, now-at.invariant.1, c.loop-i-test.true)) in
-    let up = row-rising a.g tab es P.1 _ _ next l _ c.run_at-r.ensures now-at.invariant.2 _ _ _ now-at.invariant.0 now-at.invariant.3 (elim c.if-low-r.branch [ then-low-r w ↦ inl (w.if-low-r.true, w.rest-is) | else-low-r w ↦ inr (w.if-low-r.false, w.rest-is) ]) in
-    let apart = row-go a.g tab es P.1 _ _ next l _ c.run_at-r.ensures now-at.invariant.2 _ _ _ now-at.invariant.0 now-at.invariant.3 (elim c.if-low-r.branch [ then-low-r w ↦ inl (w.if-low-r.true, w.rest-is) | else-low-r w ↦ inr (w.if-low-r.false, w.rest-is) ]) c.parted_from.ensures (ap not c.if-not-parted_from.false) in
+    let l = entries-lt a.card.geo a.card.bytes.now (now-at.i - 1) (omega (arith, now-at.invariant.0, now-at.invariant.1, c.loop-i-test.true)) in
+    let up = row-rising a.card.geo tab es P _ _ next l _ c.run_at-r.ensures now-at.invariant.2 _ _ _ now-at.invariant.0 now-at.invariant.3 (elim c.if-low-r.branch [ then-low-r w ↦ inl (w.if-low-r.true, w.rest-is) | else-low-r w ↦ inr (w.if-low-r.false, w.rest-is) ]) in
+    let apart = row-go a.card.geo tab es P _ _ next l _ c.run_at-r.ensures now-at.invariant.2 _ _ _ now-at.invariant.0 now-at.invariant.3 (elim c.if-low-r.branch [ then-low-r w ↦ inl (w.if-low-r.true, w.rest-is) | else-low-r w ↦ inr (w.if-low-r.false, w.rest-is) ]) c.parted_from.ensures (ap not c.if-not-parted_from.false) in
     (elim c.if-low-r.branch [ then-low-r w ↦ omega (arith, w.rest-is) | else-low-r w ↦ omega (arith, w.rest-is) ], elim c.if-low-r.branch [ then-low-r w ↦ omega (arith, w.rest-is) | else-low-r w ↦ omega (arith, w.rest-is) ], apart, up)
 
 pub returns : goal.returns

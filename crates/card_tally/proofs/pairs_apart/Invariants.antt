@@ -12,4 +12,4 @@ use Rattle.card.proofs.TallyTests.{Rising}
 use Rattle.card_tally.proofs.pairs_apart.Given as goal
 
 abbrev pub invariant-loop-i : goal.invariant-loop-i
-invariant-loop-i l = (l.i ≤ l.rest) × (l.rest ≤ 4 * l.g.d) × (pairwise (parted_in (table_in l.g l.v (sec l.card))) (drop l.i (entries_of l.g (sec l.card))) ≡ true) × Rising (table_in l.g l.v (sec l.card)) (entries_of l.g (sec l.card)) l.i l.rest l.low
+invariant-loop-i l = (l.i ≤ l.rest) × (l.rest ≤ 4 * l.card.geo.d) × (pairwise (parted_in (table_in l.card.geo l.v (sec l.card.bytes.now))) (drop l.i (entries_of l.card.geo (sec l.card.bytes.now))) ≡ true) × Rising (table_in l.card.geo l.v (sec l.card.bytes.now)) (entries_of l.card.geo (sec l.card.bytes.now)) l.i l.rest l.low

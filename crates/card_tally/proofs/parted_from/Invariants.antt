@@ -8,4 +8,4 @@ use Rattle.card.specs.Tally.{parted_from}
 use Rattle.card_tally.proofs.parted_from.Given as goal
 
 abbrev pub invariant-loop-j : goal.invariant-loop-j
-invariant-loop-j l = every (parted_from (table_in l.g l.v (sec l.card)) l.r) (drop l.i (entries_of l.g (sec l.card))) ≡ every (parted_from (table_in l.g l.v (sec l.card)) l.r) (drop l.j (entries_of l.g (sec l.card)))
+invariant-loop-j l = every (parted_from (table_in l.card.geo l.v (sec l.card.bytes.now)) l.r) (drop l.i (entries_of l.card.geo (sec l.card.bytes.now))) ≡ every (parted_from (table_in l.card.geo l.v (sec l.card.bytes.now)) l.r) (drop l.j (entries_of l.card.geo (sec l.card.bytes.now)))

@@ -17,6 +17,6 @@ use Rattle.card_tally.proofs.tally_of.Given as goal
 
 abbrev pub invariant-loop-j : goal.invariant-loop-j
 invariant-loop-j l =
-    (every (held_by (table_in l.g l.v (sec l.card)) (page_in l.g (table_in l.g l.v (sec l.card)) (sec l.card))) (entries_of l.g (sec l.card)) ≡ (l.set && every (held_by (table_in l.g l.v (sec l.card)) (page_in l.g (table_in l.g l.v (sec l.card)) (sec l.card))) (drop l.j (entries_of l.g (sec l.card)))))
-    × (l.sectors + sectors_of (files_of (table_in l.g l.v (sec l.card)) (drop l.j (entries_of l.g (sec l.card)))) ≡ sectors_of (files_of (table_in l.g l.v (sec l.card)) (entries_of l.g (sec l.card)))) × (l.sectors ≤ 65536 * l.j)
-    × Walked l.g (files_of (table_in l.g l.v (sec l.card)) (entries_of l.g (sec l.card))) l.own × IsShown l.g (table_in l.g l.v (sec l.card)) (sec l.card) l.page
+    (every (held_by (table_in l.card.geo l.v (sec l.card.bytes.now)) (page_in l.card.geo (table_in l.card.geo l.v (sec l.card.bytes.now)) (sec l.card.bytes.now))) (entries_of l.card.geo (sec l.card.bytes.now)) ≡ (l.set && every (held_by (table_in l.card.geo l.v (sec l.card.bytes.now)) (page_in l.card.geo (table_in l.card.geo l.v (sec l.card.bytes.now)) (sec l.card.bytes.now))) (drop l.j (entries_of l.card.geo (sec l.card.bytes.now)))))
+    × (l.sectors + sectors_of (files_of (table_in l.card.geo l.v (sec l.card.bytes.now)) (drop l.j (entries_of l.card.geo (sec l.card.bytes.now)))) ≡ sectors_of (files_of (table_in l.card.geo l.v (sec l.card.bytes.now)) (entries_of l.card.geo (sec l.card.bytes.now)))) × (l.sectors ≤ 65536 * l.j)
+    × Walked l.card.geo (files_of (table_in l.card.geo l.v (sec l.card.bytes.now)) (entries_of l.card.geo (sec l.card.bytes.now))) l.own × IsShown l.card.geo (table_in l.card.geo l.v (sec l.card.bytes.now)) (sec l.card.bytes.now) l.page

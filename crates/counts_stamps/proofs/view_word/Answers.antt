@@ -11,7 +11,7 @@ pub returns-then-crash_counts-cc : goal.returns-then-crash_counts-cc
 returns-then-crash_counts-cc c = grind (arith, common_steps, counted, view-past)
 
 pub returns-then-eq : goal.returns-then-eq
-returns-then-eq c = sym (view-own _ _ c.requires _ _ (omega (arith, counted c.args.g c.crash_counts.ensures)) (eqb-true _ _ (sym c.eq.ensures ∙ c.if-eq.true)))
+returns-then-eq c = sym (view-own _ _ c.args.card.laid _ _ (omega (arith, counted c.args.card.geo c.crash_counts.ensures)) (eqb-true _ _ (sym c.eq.ensures ∙ c.if-eq.true)))
 
 pub returns : goal.returns
 returns c = grind (arith, common_steps, view-other)

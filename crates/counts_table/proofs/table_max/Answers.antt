@@ -14,8 +14,8 @@ use Rattle.counts_table.proofs.table_max.Goals as goal
 pub loop-i-preserved : goal.loop-i-preserved
 loop-i-preserved c =
     let e = ap (leb c.word_in.result) c.top-top.ensures ∙ ap word_max c.word_in.ensures in
-    seen-go word_max _ 0 c.loop-i.i c.loop-i.ok _ (table-lt _ _ c.requires.0 _ (omega (arith, counted c.args.g refl, c.judged-i-end.ensures.0))) e c.loop-i.invariant
+    seen-go word_max _ 0 c.loop-i.i c.loop-i.ok _ (table-lt _ _ c.args.card.laid _ (omega (arith, counted c.args.card.geo refl, c.judged-i-end.ensures.0))) e c.loop-i.invariant
 
 pub returns : goal.returns
 returns c =
-    walk_end (table_of c.args.g (sec c.args.card.now)) (g_n c.args.g) c.args.c.0 c.loop-i.i _ c.loop-i.ok c.args.past (table-le _ _ c.requires.0 _ (omega (arith, counted c.args.g refl))) c.requires.1 c.judged-i-end.ensures.1 (omega arith) c.loop-i.invariant
+    walk_end (table_of c.args.card.geo (sec c.args.card.bytes.now)) (g_n c.args.card.geo) c.args.c.0 c.loop-i.i _ c.loop-i.ok c.args.past (table-le _ _ c.args.card.laid _ (omega (arith, counted c.args.card.geo refl))) c.requires c.judged-i-end.ensures.1 (omega arith) c.loop-i.invariant

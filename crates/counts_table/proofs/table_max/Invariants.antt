@@ -9,4 +9,4 @@ use Rattle.counts.specs.Stamps.{word_max}
 use Rattle.counts_table.proofs.table_max.Given as goal
 
 abbrev pub invariant-loop-i : goal.invariant-loop-i
-invariant-loop-i l = every word_max (table_of l.g (sec l.card)) ≡ (l.ok && every word_max (drop l.i (table_of l.g (sec l.card))))
+invariant-loop-i l = every word_max (table_of l.card.geo (sec l.card.bytes.now)) ≡ (l.ok && every word_max (drop l.i (table_of l.card.geo (sec l.card.bytes.now))))

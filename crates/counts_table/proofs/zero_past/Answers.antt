@@ -11,10 +11,10 @@ use Rattle.counts_table.proofs.zero_past.Goals as goal
 
 pub loop-i-preserved : goal.loop-i-preserved
 loop-i-preserved c =
-    seen-go is_zero _ 0 c.loop-i.i c.loop-i.ok _ (table-lt _ _ c.requires _ (omega (arith, counted c.args.g c.crash_counts-i-end.ensures))) (ap is_zero c.word_in.ensures) c.loop-i.invariant
+    seen-go is_zero _ 0 c.loop-i.i c.loop-i.ok _ (table-lt _ _ c.args.card.laid _ (omega (arith, counted c.args.card.geo c.crash_counts-i-end.ensures))) (ap is_zero c.word_in.ensures) c.loop-i.invariant
 
 pub returns : goal.returns
 returns c =
-    let e = counted c.args.g c.crash_counts-i-end.ensures in
-    seen_end is_zero _ 0 c.loop-i.i c.loop-i.ok (table-le _ _ c.requires _ (omega (arith, e, c.loop-i-test.false))) c.loop-i.invariant
-    ∙ ap (every is_zero) (drop_min _ (c.args.c.0 + 1) _ (table-le _ _ c.requires _ (omega arith)) c.saturating_add-i.ensures)
+    let e = counted c.args.card.geo c.crash_counts-i-end.ensures in
+    seen_end is_zero _ 0 c.loop-i.i c.loop-i.ok (table-le _ _ c.args.card.laid _ (omega (arith, e, c.loop-i-test.false))) c.loop-i.invariant
+    ∙ ap (every is_zero) (drop_min _ (c.args.c.0 + 1) _ (table-le _ _ c.args.card.laid _ (omega arith)) c.saturating_add-i.ensures)

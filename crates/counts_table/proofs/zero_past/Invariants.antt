@@ -8,4 +8,4 @@ use Rattle.counts.specs.Geometry.{table_of}
 use Rattle.counts_table.proofs.zero_past.Given as goal
 
 abbrev pub invariant-loop-i : goal.invariant-loop-i
-invariant-loop-i l = every is_zero (drop l.initial.i (table_of l.g (sec l.card))) ≡ (l.ok && every is_zero (drop l.i (table_of l.g (sec l.card))))
+invariant-loop-i l = every is_zero (drop l.initial.i (table_of l.card.geo (sec l.card.bytes.now))) ≡ (l.ok && every is_zero (drop l.i (table_of l.card.geo (sec l.card.bytes.now))))

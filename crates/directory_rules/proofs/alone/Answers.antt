@@ -12,11 +12,11 @@ use Rattle.directory_rules.proofs.alone.Goals.{then-is_gone, else-is_gone}
 pub returns-then-mark_name : goal.returns-then-mark_name
 returns-then-mark_name c =
     let a = c.args in
-    let tp = table_in a.g a.v (sec a.card.now) in
-    let tc = table_in a.g a.w (sec a.card.now) in
-    let es = entries_of a.g (sec a.card.now) in
+    let tp = table_in a.card.geo a.v (sec a.card.bytes.now) in
+    let tc = table_in a.card.geo a.w (sec a.card.bytes.now) in
+    let es = entries_of a.card.geo (sec a.card.bytes.now) in
     let e = c.is_gone.ensures ∙ ap (gone tp tc) c.entry-p.ensures.bytes in
-    let known = c.requires.1.1.1 in
+    let known = c.requires.1.1 in
     elim c.if-is_gone.branch [
       | then-is_gone w ↦ (c.if-mark_name.true ∙ gone-apart tp tc _ _ _ e w.if-is_gone.true, rw w.marks-is (known-gone tp tc es _ _ e w.if-is_gone.true known))
       | else-is_gone w ↦
@@ -27,11 +27,11 @@ returns-then-mark_name c =
 pub returns-else-mark_name : goal.returns-else-mark_name
 returns-else-mark_name c =
     let a = c.args in
-    let tp = table_in a.g a.v (sec a.card.now) in
-    let tc = table_in a.g a.w (sec a.card.now) in
+    let tp = table_in a.card.geo a.v (sec a.card.bytes.now) in
+    let tc = table_in a.card.geo a.w (sec a.card.bytes.now) in
     elim c.if-is_gone.branch [
       | then-is_gone w ↦ falsum (sym c.if-mark_name.false ∙ w.value-is ∙ w.if-is_gone.true)
       | else-is_gone w ↦
           let m = marking-of w.mark_name.ensures c.entry-p.ensures.bytes in
-          (c.apart_from.ensures, rw w.marks-is (known_next tp tc (entries_of a.g (sec a.card.now)) _ _ _ m c.requires.1.1.1))
+          (c.apart_from.ensures, rw w.marks-is (known_next tp tc (entries_of a.card.geo (sec a.card.bytes.now)) _ _ _ m c.requires.1.1))
     ]

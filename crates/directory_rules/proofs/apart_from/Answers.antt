@@ -14,5 +14,5 @@ use Rattle.directory_rules.proofs.apart_from.Goals as goal
 pub returns : goal.returns
 returns c =
     let a = c.args in
-    let es = entries_of a.g (sec a.card.now) in
-    rest-of (apart (table_in a.g a.v (sec a.card.now)) (table_in a.g a.w (sec a.card.now)) (get_or es a.i [])) es (λ x b q k. search rules) c.all.ensures.ran (omega arith) (sym (entries-length a.g a.card.now))
+    let es = entries_of a.card.geo (sec a.card.bytes.now) in
+    rest-of (apart (table_in a.card.geo a.v (sec a.card.bytes.now)) (table_in a.card.geo a.w (sec a.card.bytes.now)) (get_or es a.i [])) es (λ x b q k. search rules) c.all.ensures.ran (omega arith) (sym (entries-length a.card.geo a.card.bytes.now))

@@ -7,4 +7,4 @@ use Rattle.directory.proofs.EntryRuns.{every-of}
 use Rattle.directory_rules.proofs.entries_ok.Goals as goal
 
 pub returns : goal.returns
-returns c = let a = c.args in every-of (entry_ok a.g a.bound.0 (table_in a.g a.v (sec a.card.now))) c.entries.ensures.gives (λ x b q k. search rules) c.all.ensures.ran
+returns c = let a = c.args in every-of (entry_ok a.card.geo a.bound.0 (table_in a.card.geo a.v (sec a.card.bytes.now))) c.entries.ensures.gives (λ x b q k. search rules) c.all.ensures.ran

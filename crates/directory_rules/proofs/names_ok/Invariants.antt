@@ -10,4 +10,4 @@ use Rattle.directory_rules.specs.Inner.{Known}
 use Rattle.directory_rules.proofs.names_ok.Given as goal
 
 abbrev pub invariant-loop-i : goal.invariant-loop-i
-invariant-loop-i l = (length l.marks ≡ 128) × (pairwise (apart (table_in l.g l.v (sec l.card)) (table_in l.g l.w (sec l.card))) (drop l.i (entries_of l.g (sec l.card))) ≡ true) × Known (table_in l.g l.v (sec l.card)) (table_in l.g l.w (sec l.card)) (entries_of l.g (sec l.card)) l.i l.marks
+invariant-loop-i l = (length l.marks ≡ 128) × (pairwise (apart (table_in l.card.geo l.v (sec l.card.bytes.now)) (table_in l.card.geo l.w (sec l.card.bytes.now))) (drop l.i (entries_of l.card.geo (sec l.card.bytes.now))) ≡ true) × Known (table_in l.card.geo l.v (sec l.card.bytes.now)) (table_in l.card.geo l.w (sec l.card.bytes.now)) (entries_of l.card.geo (sec l.card.bytes.now)) l.i l.marks

@@ -7,5 +7,5 @@ use Rattle.store_edit.proofs.remove_fitting.Goals as goal
 pub present_view-present-requires : goal.present_view-present-requires
 present_view-present-requires c = let l = fit-laid _ _ (open-fits _ c.in_ok-s.ensures.ok_part c.requires) in search rules
 
-pub find_name-requires : goal.find_name-requires
-find_name-requires c = fit-laid _ _ (open-fits _ c.in_ok-s.ensures.ok_part c.requires)
+pub invariant_of-image : goal.invariant_of-image
+invariant_of-image c = record { laid = fit-laid _ _ (open-fits _ c.in_ok-s.ensures.ok_part c.requires) }

@@ -16,10 +16,10 @@ loop-p-init c = record {
 }
 
 pub sector_at-requires : goal.sector_at-requires
-sector_at-requires c = page-room _ _ _ _ c.requires.0 (omega arith) c.requires.1 c.page_at-first.ensures
+sector_at-requires c = page-room _ _ _ _ c.args.img.laid (omega arith) c.requires c.page_at-first.ensures
 
 pub sector_at-requires-in-loop-p : goal.sector_at-requires-in-loop-p
-sector_at-requires-in-loop-p c = page-room _ _ _ _ c.requires.0 (omega arith) c.requires.1 c.page_at-second.ensures
+sector_at-requires-in-loop-p c = page-room _ _ _ _ c.args.img.laid (omega arith) c.requires c.page_at-second.ensures
 
 pub loop-p-preserved : goal.loop-p-preserved
 loop-p-preserved c =

@@ -13,8 +13,8 @@ geo_of-g-requires c = shape-length _ c.in_ok-judged.ensures.passed.0
 pub as_is-requires : goal.as_is-requires
 as_is-requires c = shape-limits _ _ c.geo_of-g.ensures c.in_ok-judged.ensures.passed.0
 
-pub listing_in-requires : goal.listing_in-requires
-listing_in-requires c = shape-laid _ _ c.geo_of-g.ensures c.in_ok-judged.ensures.passed.0
+pub invariant_of-image : goal.invariant_of-image
+invariant_of-image c = record { laid = shape-laid _ _ c.geo_of-g.ensures c.in_ok-judged.ensures.passed.0 }
 
 pub returns : goal.returns
 returns c = card-go _ _ c.in_ok-judged.ensures.passed.0 c.in_ok-judged.ensures.passed.1 c.geo_of-g.ensures c.as_is.ensures c.listing_in.ensures

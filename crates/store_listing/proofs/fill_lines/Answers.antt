@@ -20,8 +20,8 @@ pub loop-i-init : goal.loop-i-init
 unfolding filled_to
 loop-i-init c = (refl, from_start _ _)
 
-pub next_line-requires : goal.next_line-requires
-next_line-requires c = c.requires.0.1 (omega arith)
+pub invariant_of-image : goal.invariant_of-image
+invariant_of-image c = record { laid = c.requires.0.1 (omega arith) }
 
 pub unwrap-next-requires : goal.unwrap-next-requires
 unwrap-next-requires c = next-there (listing_of (Ok c.args.l)) _ _ _ _ c.loop-i.invariant.1 (omega (arith, c.requires.1)) c.next_line.ensures

@@ -16,8 +16,8 @@ returns-in_err-s c =
 pub present_view-requires : goal.present_view-requires
 present_view-requires c = let l = fit-laid _ _ (open-fits _ c.in_ok-s.ensures.ok_part c.requires) in search rules
 
-pub listing_in-requires : goal.listing_in-requires
-listing_in-requires c = fit-laid _ _ (open-fits _ c.in_ok-s.ensures.ok_part c.requires)
+pub invariant_of-image : goal.invariant_of-image
+invariant_of-image c = record { laid = fit-laid _ _ (open-fits _ c.in_ok-s.ensures.ok_part c.requires) }
 
 pub returns : goal.returns
 returns c = session-go _ _ _ c.in_ok-s.ensures.ok_part (open-fits _ c.in_ok-s.ensures.ok_part c.requires) c.present_view.ensures c.listing_in.ensures

@@ -8,8 +8,8 @@ use Rattle.store_look.proofs.line_fitting.Goals as goal
 pub present_view-present-requires : goal.present_view-present-requires
 present_view-present-requires c = let l = fit-laid _ _ (open-fits _ c.in_ok-s.ensures.ok_part c.requires) in search rules
 
-pub line_in-requires : goal.line_in-requires
-line_in-requires c = fit-laid _ _ (open-fits _ c.in_ok-s.ensures.ok_part c.requires)
+pub invariant_of-image : goal.invariant_of-image
+invariant_of-image c = record { laid = fit-laid _ _ (open-fits _ c.in_ok-s.ensures.ok_part c.requires) }
 
 pub returns : goal.returns
 returns c = line-done _ _ c.in_ok-s.ensures.ok_part (open-fits _ c.in_ok-s.ensures.ok_part c.requires) c.present_view-present.ensures _ c.line_in.ensures
