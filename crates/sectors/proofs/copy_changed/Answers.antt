@@ -5,6 +5,10 @@ use Rattle.sectors.specs.Sectors.{differs}
 use Rattle.sectors.proofs.Fewer.{write-own}
 use Rattle.sectors.proofs.copy_changed.Goals as goal
 
+pub returns-then-same : goal.returns-then-same
+unfolding differs
+returns-then-same c = grind (arith, common_steps, write-own)
+
 pub returns : goal.returns
 unfolding differs
 returns c = grind (arith, common_steps, write-own)
