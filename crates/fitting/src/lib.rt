@@ -17,7 +17,7 @@ ghost use Rattle.store.specs.Sync.{land, sync, unmount};
 ghost use Rattle.host_crossing.specs.Crossing.{decoded, roomed, IsKept, IsKeptNumber};
 
 use card::{Answer, Line, number};
-use host_crossing::{close, give_room, keep, session_at};
+use host_crossing::{close, give_figures, keep_synced, session_at};
 use sectors::Sector;
 use store_card::{land_fitting, sync_fitting, unmount_fitting};
 use store_edit::{put_at_fitting, put_fitting, remove_fitting};
@@ -78,7 +78,7 @@ pub fn fitting_free(session: &[u8; 24], work: &[u8], out: &mut [u8; 8]) -> u32
     requires { FitOf (decoded session.now) work.now }
     ensures { (result ≡ (free (decoded session.now) work.now).number) × (out.new ≡ roomed (free (decoded session.now) work.now) out.old) }
 {
-    give_room(free_fitting(session_at(session), work), out)
+    give_figures(free_fitting(session_at(session), work), out)
 }
 
 // land: 4, 1, 11
@@ -96,7 +96,7 @@ pub fn fitting_sync_count(session: &mut [u8; 24], card: &mut [u8], work: &mut [u
     requires { FitOf (decoded session.old) work.old }
     ensures { IsKept result session.new card.new work.new session.old (sync (decoded session.old) card.old work.old) }
 {
-    keep(sync_fitting(session_at(session), card, work), session)
+    keep_synced(sync_fitting(session_at(session), card, work), session)
 }
 
 // The same call, its number alone.

@@ -29,7 +29,7 @@ use card::{Answer, Refusal, number};
 use card_fresh::make;
 use card_read::{read, read_get};
 use counts::Geo;
-use host_crossing::{close, encoded, give_room, keep, report_bytes, session_at};
+use host_crossing::{close, encoded, give_figures, keep_synced, report_bytes, session_at};
 use sectors::Sector;
 use session::Session;
 use session_unfit::{sized, sync_tests, unfit_on};
@@ -117,7 +117,7 @@ pub fn store_put_at(
 pub fn store_free(session: &[u8; 24], work: &[u8], out: &mut [u8; 8]) -> u32
     ensures { (result ≡ (free (decoded session.now) work.now).number) × (out.new ≡ roomed (free (decoded session.now) work.now) out.old) }
 {
-    give_room(free(session_at(session), work), out)
+    give_figures(free(session_at(session), work), out)
 }
 
 // "sync 4, 1, 2, 9", with the number of sectors written; on a refusal the session's bytes stay as lent.
@@ -125,7 +125,7 @@ pub fn store_free(session: &[u8; 24], work: &[u8], out: &mut [u8; 8]) -> u32
 pub fn store_sync_count(session: &mut [u8; 24], card: &mut [u8], work: &mut [u8]) -> Answer
     ensures { IsKept result session.new card.new work.new session.old (sync (decoded session.old) card.old work.old) }
 {
-    keep(sync(session_at(session), card, work), session)
+    keep_synced(sync(session_at(session), card, work), session)
 }
 
 // The same call, its number alone.

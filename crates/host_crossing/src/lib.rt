@@ -105,35 +105,52 @@ fn room_bytes(f: Figures) -> [u8; 8]
     bytes_of(&[f.free, f.waiting])
 }
 
-// Free's figures go to the host's bytes; a refusal leaves them as lent.
+// Free's figures go to the host's bytes where the number is 0; a refusal leaves them as lent.
 #[tactic(auto, unfolding(crate::specs::Crossing::roomed))]
-pub fn give_room(r: Result<Figures, Refusal>, out: &mut [u8; 8]) -> u32
-    ensures { (result ≡ (room_of r).number) × (out.new ≡ roomed (room_of r) out.old) }
+pub fn give_room(number: u32, figures: Figures, out: &mut [u8; 8]) -> u32
+    ensures { (result ≡ number) × (out.new ≡ roomed (record { number = number; free = figures.free; waiting = figures.waiting }) out.old) }
 {
-    if let Ok(figures) = r {
+    if number == 0 {
         *out = room_bytes(figures);
     }
-    card::number(r)
+    number
 }
 
-// The session that sync gives goes to the host's bytes; a refusal leaves them as lent.
+// The same of what free gives.
+pub fn give_figures(r: Result<Figures, Refusal>, out: &mut [u8; 8]) -> u32
+    ensures { (result ≡ (room_of r).number) × (out.new ≡ roomed (room_of r) out.old) }
+{
+    let none = Figures {
+        free: 0,
+        waiting: 0,
+    };
+    give_room(card::number(r), r.unwrap_or(none), out)
+}
+
+// The session that a call gives goes to the host's bytes where its number is 0; a refusal leaves them as lent.
+#[tactic(auto, unfolding(crate::specs::Crossing::kept_by))]
+pub fn keep(answer: Answer, next: Session, session: &mut [u8; 24]) -> Answer
+    ensures { (result ≡ answer) × (session.new ≡ kept_by answer next session.old) }
+{
+    if answer.number == 0 {
+        *session = encoded(next);
+    }
+    answer
+}
+
+// The same of what sync gives.
 #[tactic(auto, unfolding(crate::specs::Crossing::kept_by, card::specs::Plan::done, card::specs::Plan::refused))]
-pub fn keep(r: Result<Synced, Refusal>, session: &mut [u8; 24]) -> Answer
+pub fn keep_synced(r: Result<Synced, Refusal>, session: &mut [u8; 24]) -> Answer
     ensures { (result ≡ (synced_of (decoded session.old) r).answer) × (session.new ≡ kept_by (synced_of (decoded session.old) r).answer (synced_of (decoded session.old) r).session session.old) }
 {
-    if let Ok(synced) = r {
-        *session = encoded(Some(synced.session));
-    }
-    Answer::from(r.map(|synced| synced.written))
+    let next = r.ok().map(|synced| synced.session);
+    keep(Answer::from(r.map(|synced| synced.written)), next, session)
 }
 
-// The closed session of an unmount goes to the host's bytes; a refusal leaves them as lent.
+// The same of what unmount gives: with 0 the closed session.
 #[tactic(auto, unfolding(crate::specs::Crossing::kept_by, card::specs::Plan::done, card::specs::Plan::refused))]
 pub fn close(r: Result<u32, Refusal>, session: &mut [u8; 24]) -> Answer
     ensures { (result ≡ (unmounted_of (decoded session.old) r).answer) × (session.new ≡ kept_by (unmounted_of (decoded session.old) r).answer (unmounted_of (decoded session.old) r).session session.old) }
 {
-    if r.is_ok() {
-        *session = encoded(None);
-    }
-    Answer::from(r)
+    keep(Answer::from(r), None, session)
 }
