@@ -88,6 +88,7 @@ fn fresh_index(g: Geo) -> [u8; 512]
 }
 
 // Writes both pages of every pair, "showing the data free".
+#[inline(never)]
 fn fresh_pages(g: Geo, card: &mut [u8])
     requires { LaidOut g card.old }
     ensures { card.new ≡ fresh_pages g 0 (g_p g) card.old }
@@ -101,6 +102,7 @@ fn fresh_pages(g: Geo, card: &mut [u8])
 }
 
 // Writes the transaction block.
+#[inline(never)]
 fn put_block(g: Geo, card: &mut [u8])
     requires { LaidOut g card.old }
     ensures { card.new ≡ set_sec card.old 0 (block_bytes 0 g) }
@@ -109,6 +111,7 @@ fn put_block(g: Geo, card: &mut [u8])
 }
 
 // Writes the index.
+#[inline(never)]
 fn put_index(g: Geo, card: &mut [u8])
     requires { LaidOut g card.old }
     ensures { card.new ≡ set_sec card.old (g.t + 1) (fresh_index g) }
@@ -116,7 +119,7 @@ fn put_index(g: Geo, card: &mut [u8])
     sectors::write_sector(card, Sector(g.t + 1), &fresh_index(g))
 }
 
-// Makes a fresh card of an image as long as its geometry says, with one sector's buffer at a time.
+// Makes a fresh card of an image as long as its geometry says, with one sector's buffer at a time: each is in the frame of a call of its own.
 fn make_in(g: Geo, card: &mut [u8])
     requires { LaidOut g card.old × (length card.old ≡ 512 * g.s) }
     ensures { card.new ≡ fresh_card g }
