@@ -76,7 +76,7 @@ unfolding set_run
 run-one p n v e = let f : n ≡ n + 0 = omega arith in e ∙ ap (λ (k : ℕ). put_bit p k v) f
 
 -- the bits of m bytes from byte j on: the bytes are all alike
-bytes_same : (p : List ℕ) → ((i : ℕ) → get_or p i 0 < 256) → (j m v : ℕ) → v < 2 → j + m ≤ length p → splice p j (replicate m (255 * v)) ≡ set_run p (8 * j) (8 * m) v
+pub bytes_same : (p : List ℕ) → ((i : ℕ) → get_or p i 0 < 256) → (j m v : ℕ) → v < 2 → j + m ≤ length p → splice p j (replicate m (255 * v)) ≡ set_run p (8 * j) (8 * m) v
 bytes_same p small j zero v two h = splice-nil p j ∙ sym (run_none p (8 * j) v)
 bytes_same p small j (suc m) v two h =
     let q = splice p j (replicate m (255 * v)) in

@@ -34,6 +34,10 @@ pub page-lowest : (f : ℕ → ℕ) (k lo hi : ℕ) (r : Option ℕ) → hi ≤ 
 page-lowest f k lo hi (Some s) h low = (low.0, low.1, (omega (arith, low.1), low.2), λ t a b g. low.3 t a b g.1)
 page-lowest f k lo hi None h low = λ t a b g. low t a b g.1
 
+pub run_up_to-le : (b have n : ℕ) → run_up_to b have n ≤ have + n
+run_up_to-le zero have n = omega arith
+run_up_to-le (suc b) have n = omega arith
+
 pub run_up_to-busy : (b have n : ℕ) {r : Bool} → r ≡ not (is_zero b) → r ≡ true → 0 ≡ run_up_to b have n
 run_up_to-busy zero have n e h = falsum (sym e ∙ h)
 run_up_to-busy (suc b) have n e h = refl

@@ -1,41 +1,33 @@
 -- A line at a position of a view's files, and what get asks. Assumes nothing.
 use Rattle.std.specs.Prelude.{Option, Some, None, Ok, slice_get}
-use Rattle.std.proofs.Common.{refl, inl, inr, ◌⊎◌}
+use Rattle.std.proofs.Common.{inl, inr, ◌⊎◌}
 use Rattle.std.proofs.lemmas.Option.{slice_get_cases, get_or_from_slice_get}
 use Rattle.std.proofs.lemmas.List.{get_or_past}
 use Rattle.std.proofs.lemmas.Bool.{lt-ltb, le-ltb}
-use lib.Dec.{ltb}
-use Rattle.std.specs.Int.{from_bool}
-use mathlib.Core.Path.{◌≡◌, sym, ap, ◌∙◌}
-use mathlib.Core.Bool.{Bool, true, false, not, cond}
+use mathlib.Core.Path.{◌≡◌, sym, ◌∙◌}
+use mathlib.Core.Bool.{Bool, true, false, cond}
 use mathlib.Core.List.{List, [], ◌∷◌, ◌++◌}
-use Prim.Native.Nat.{ℕ, zero, suc, ◌+◌, ◌-◌, ◌*◌, ◌≤◌, ◌<◌}
+use Prim.Native.Nat.{ℕ, suc, ◌+◌, ◌-◌, ◌*◌, ◌≤◌, ◌<◌}
 use native.Mathlib.Nat.{zero-add}
-use native.Mathlib.Numerals.{add-one}
 use native.Mathlib.Omega.{arith}
-use lib.ListN.{length, take, drop, get_or, drop_of_length-le, length-drop}
+use lib.ListN.{length, take, drop, get_or, length-drop}
 use Rattle.words.proofs.SpliceLaws.{splice-parts}
-use lib.Seq.{drop-cons, length-take-le}
-use Rattle.words_sums.specs.Sums.{bit}
+use lib.Seq.{length-take-le}
 use Rattle.words.specs.Lists.{first_at, splice}
-use Rattle.words.specs.Bytes.{word_at}
 use Rattle.words.proofs.BoolLaws.{never}
 use Rattle.sectors.specs.Sectors.{sec}
 use Rattle.counts.specs.declared.Geo.{Geo}
 use Rattle.entries.specs.declared.Run.{Run}
-use Rattle.entries.specs.declared.Version.{Version}
-use Rattle.entries.specs.declared.Version.TheVariants.{Absent, Present}
-use Rattle.entries.specs.Entries.{shown, is_absent, name_bytes, run_ok}
+use Rattle.entries.specs.Entries.{run_ok}
 use Rattle.entries.proofs.PassLaws.{run_holds, run_room, run_is}
 use Rattle.directory.specs.Directory.{entries_of}
-use Rattle.directory.specs.Inner.{place_of}
-use Rattle.directory.proofs.DirectoryLaws.{entry-part, entries-lt}
+use Rattle.directory.proofs.DirectoryLaws.{entries-lt}
 use Rattle.card.specs.declared.Line.{Line}
 use Rattle.card.specs.Answers.{lined_of}
 use Rattle.card.specs.Plan.{go_ahead, ended}
-use Rattle.card.specs.Files.{cons_file, files_of, run_of, run_at, content_of, no_line, line_end}
+use Rattle.card.specs.Files.{run_at, content_of, no_line, line_end}
 use Rattle.card.proofs.PieceLaws.{content-run}
-use Rattle.card.specs.Inner.{RunsOk, line_of}
+use Rattle.card.specs.Inner.{RunsOk}
 
 -- ---- a line at a position
 

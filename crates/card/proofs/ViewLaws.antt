@@ -6,7 +6,7 @@ use Prim.Native.Nat.{ℕ, suc, ◌+◌, ◌-◌, ◌*◌, ◌≤◌, ◌<◌}
 use native.Mathlib.Numerals.{add-one}
 use native.Mathlib.Omega.{arith}
 use borrow.Author.Tests.{not-true, not-false}
-use lib.ListN.{length, take, drop, length-take}
+use lib.ListN.{length, take, drop}
 use Rattle.words.specs.Lists.{every}
 use Rattle.counts.specs.Geometry.{g_p}
 use Rattle.words.specs.Bytes.{word_at}

@@ -7,7 +7,7 @@ use mathlib.Core.Logic.{◌⊎◌, inl, inr}
 use Prim.Native.Nat.{ℕ, zero, suc, ◌+◌, ◌*◌, ◌≤◌, ◌<◌}
 use native.Mathlib.Omega.{arith}
 use native.Mathlib.Numerals.{add-one}
-use lib.ListN.{length, take, drop, length-drop, get_or, drop_of_length-le, length-map}
+use lib.ListN.{length, drop, length-drop, get_or, drop_of_length-le, length-map}
 use lib.Seq.{drop-cons, length-take-le}
 use denote.Ref.{Bor}
 use Rattle.std.specs.Prelude.{map, filter, count_by, slice_get, Option, Some, None}

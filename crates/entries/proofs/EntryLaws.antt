@@ -7,6 +7,7 @@ use native.Mathlib.Decide.{dec_lt}
 use native.Mathlib.Omega.{arith}
 use lib.ListN.{length, take, drop, length-take, length-drop}
 use lib.Seq.{take-take, take_all}
+use Rattle.words.specs.Lists.{eq_list}
 use Rattle.words.specs.Bytes.{word_at}
 use Rattle.counts.specs.declared.Stamp.{Stamp}
 use Rattle.counts.specs.declared.Standing.{Standing}
@@ -53,3 +54,7 @@ name-part p {a} h e = go (dec_lt (word_at p 8) 32)
         let n : a - 12 ≡ 32 = omega arith in
         let l : length (take 32 (drop 12 p)) ≤ word_at p 8 = simp length-take (omega arith) in
         rw (n, take_all (word_at p 8) (take 32 (drop 12 p)) l)
+
+pub same_here : (p q : List ℕ) {a b : ℕ} {r : Bool} → length p ≡ 128 → length q ≡ 128 → a ≡ 12 + min (word_at p 8) 32 → b ≡ 12 + min (word_at q 8) 32
+    → r ≡ eq_list (take (a - 12) (drop 12 p)) (take (b - 12) (drop 12 q)) → r ≡ eq_list (name_of p) (name_of q)
+same_here p q l m e f h = h ∙ rw (name-part p l e, name-part q m f)

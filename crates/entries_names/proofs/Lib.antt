@@ -1,2 +1,3 @@
 -- Laws and proofs that belong to no one function.
 pub mod NameHash
+pub mod Unlike

@@ -1,4 +1,5 @@
 -- Laws and proofs that belong to no one function.
+pub mod CrossingLaws
 pub mod WordRows
 pub mod SessionBytes
 pub mod HostCalls

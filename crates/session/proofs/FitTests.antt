@@ -1,10 +1,10 @@
 -- The fit test's parts as code computes them. Assumes nothing.
-use mathlib.Core.Path.{◌≡◌, refl}
-use mathlib.Core.Bool.{Bool, true, false, ◌&&◌}
+use mathlib.Core.Path.{◌≡◌, refl, sym, ◌∙◌}
+use mathlib.Core.Bool.{Bool, true, false, not, ◌&&◌}
 use mathlib.Core.List.{List}
 use Prim.Native.Nat.{ℕ, ◌+◌, ◌-◌, ◌*◌, ◌≤◌}
 use native.Mathlib.Omega.{arith}
-use borrow.Author.Tests.{eqb-true}
+use borrow.Author.Tests.{not-false, eqb-true}
 use lib.Dec.{leb, ltb, eqb}
 use lib.ListN.{length, take, drop, get_or}
 use Rattle.words.specs.Lists.{every, pairwise, is_zero, part}
@@ -26,6 +26,10 @@ use Rattle.session.specs.Fits.{sizes_ok, head_ok, word_ok, entry_at_most, index_
 
 -- ---- the test in three parts
 
+and_assoc : (a b c : Bool) → (a && b && c) ≡ (a && (b && c))
+and_assoc true b c = refl
+and_assoc false b c = refl
+
 regroup : (a b c d e f g h i : Bool) → (a && b && c && d && e && f && g && h && i) ≡ (a && b && (c && d) && (e && f && g) && (h && i))
 regroup true true true true true true true h i = refl
 regroup true true true true true true false h i = refl
@@ -35,6 +39,15 @@ regroup true true true false e f g h i = refl
 regroup true true false d e f g h i = refl
 regroup true false c d e f g h i = refl
 regroup false b c d e f g h i = refl
+
+-- the counts and the table: sector 0 first, then one test after the other, as code makes them
+module _ (s : Opened) (k : Cells) {h : Bool} (eh : h ≡ head_ok s k) where
+  pub table_here : {w m z : Bool} → not h ≡ false → w ≡ word_ok s.worn s.t.0 (get_or (table_of s.geo k) s.c.0 0) → m ≡ every word_max (table_of s.geo k)
+      → z ≡ every is_zero (drop (s.c.0 + 1) (table_of s.geo k)) → (w && m && z) ≡ table_fits s k
+  unfolding table_fits
+  table_here {w} {m} {z} n ew em ez =
+      let q : head_ok s k ≡ true = sym eh ∙ not-false h n in
+      and_assoc w m z ∙ rw (q, ew, em, ez)
 
 -- the text of the paragraph, one clause after the other
 pub fits-text : (s : Opened) (k : Cells) → (head_ok s k && word_ok s.worn s.t.0 (get_or (table_of s.geo k) s.c.0 0) && every word_max (table_of s.geo k)

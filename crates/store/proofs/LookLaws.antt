@@ -1,6 +1,6 @@
 -- Free, line and get, answer by answer. Assumes nothing.
 use Rattle.std.specs.Prelude.{Option, Some, Ok, slice_get}
-use mathlib.Core.Path.{◌≡◌, sym, subst}
+use mathlib.Core.Path.{◌≡◌, sym, ap, ◌∙◌, subst}
 use mathlib.Core.Bool.{true}
 use mathlib.Core.List.{List}
 use Prim.Native.Nat.{ℕ}
@@ -13,8 +13,8 @@ use Rattle.apages.specs.Index.{page_in}
 use Rattle.card.specs.declared.Answer.{Answer}
 use Rattle.card.specs.declared.Line.{Line}
 use Rattle.card.specs.Answers.{lined_of}
-use Rattle.card.specs.Plan.{guard, ended}
-use Rattle.card.specs.Files.{files_of, get_plan}
+use Rattle.card.specs.Plan.{Plan, guard, ended}
+use Rattle.card.specs.Files.{files_of, get_plan, get_end}
 use Rattle.card.proofs.LineLaws.{line-counted}
 use Rattle.session.specs.declared.Opened.{Opened}
 use Rattle.session.specs.Session.{Session}
@@ -56,6 +56,12 @@ fit-runs s work h ev =
     subst (λ (u : View). RunsOk s.geo (table_in s.geo u (sec work)) (entries_of s.geo (sec work))) (sym ev)
     (entries-runs s.geo s.c.0 (present_table s (sec work)) (entries_of s.geo (sec work))
     (view-inv s.geo s.c.0 (present_table s (sec work)) (sec work) (fit-inv s work h).pres_view).entries)
+
+module _ (s : Opened) (work n out : List ℕ) {o : Session} (eo : o ≡ Some s) where
+  get_by : {p : Plan} → guard 2 (fits s work) (get_plan s.geo (present_table s (sec work)) work n out) ≡ p
+      → get o work n out ≡ get_end s.geo (present_table s (sec work)) work out p
+  unfolding get
+  get_by ep = ap (λ (q : Session). get q work n out) eo ∙ ap (λ (p : Plan). get_end s.geo (present_table s (sec work)) work out p) ep
 
 pub get-done : (s : Opened) (work n out : List ℕ) {o : Session} → o ≡ Some s → {v : View} {r : Answer} {x : List ℕ} → fits s work ≡ true → v ≡ present_view s
     → IsGot r x (get_in s.geo (table_in s.geo v (sec work)) work n out) → IsGot r x (get o work n out)

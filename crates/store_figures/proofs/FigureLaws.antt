@@ -1,4 +1,4 @@
--- A figure of two maps page by page: the loop's start, a turn and its end. Assumes nothing.
+-- Both figures of two pages by their ones, and a figure of two maps page by page: the loop's start, a turn and its end. Assumes nothing.
 use mathlib.Core.Path.{◌≡◌, sym, ◌∙◌}
 use mathlib.Core.List.{List, [], ◌++◌}
 use Prim.Native.Nat.{ℕ, suc, ◌+◌, ◌-◌, ◌*◌, ◌≤◌, ◌<◌}
@@ -8,11 +8,24 @@ use lib.ListN.{length}
 use Rattle.sectors.specs.Sectors.{sec}
 use Rattle.counts.specs.declared.Geo.{Geo}
 use Rattle.counts.specs.Geometry.{g_p}
+use Rattle.apages.specs.Inner.{either}
+use Rattle.apages.proofs.Either.{free-ones, waiting-ones}
+use Rattle.apages.specs.Ones.{set_bits}
+use Rattle.apages.specs.Free.{free_in, waiting_in}
 use Rattle.apages.specs.Index.{group_of, index_in, shown_page, page_at, map_from, page_in}
 use Rattle.store.specs.declared.Figures.{Figures}
 
 pub both-figures : {f w m n : ℕ} → f ≡ m → w ≡ n → ◌≡◌ {A = Figures} (record { free = f; waiting = w }) (record { free = m; waiting = n })
 both-figures e h = rw (e, h)
+
+-- ---- a page
+
+-- by the ones of both pages taken together, and those of the first
+module _ (p q : List ℕ) (alike : length q ≡ length p) {busy own : ℕ} (eb : busy ≡ set_bits (either p q)) (eo : own ≡ set_bits p) where
+  pub by_ones : ◌≡◌ {A = Figures} (record { free = 8 * length p - busy; waiting = busy - own }) (record { free = free_in p q; waiting = waiting_in p q })
+  by_ones = both-figures (omega (arith, free-ones p q (sym alike))) (omega (arith, waiting-ones p q (sym alike)))
+
+-- ---- page by page
 
 -- what a count over two maps is of maps one behind the other
 abbrev pub Over : (List ℕ → List ℕ → ℕ) → Type 0

@@ -1,7 +1,8 @@
 -- Past its last place sync writes nothing, and unmount nothing. Assumes nothing.
-use mathlib.Core.Path.{◌≡◌, refl, sym, ap}
+use mathlib.Core.Path.{◌≡◌, refl, sym, ap, ◌∙◌}
 use mathlib.Core.Bool.{Bool, true, false}
 use mathlib.Core.List.{List, []}
+use mathlib.Core.Logic.{◌⊎◌, ⊎_elim}
 use Prim.Native.Nat.{ℕ, ◌+◌, ◌≤◌, min}
 use native.Mathlib.Omega.{arith}
 use lib.ListN.{length, take}
@@ -42,6 +43,30 @@ module _ (s : Opened) (card work : List ℕ) (k i : ℕ) where
 
   pub counted-places : i ≡ min k (past_table s + 5) → counted_at s.worn s card work i ≡ counted_at s.worn s card work k
   counted-places q = counted-within s.worn q
+
+-- ---- the place that a walk ends at: k, or the last where k is past it
+
+module _ (s : Opened) (card work : List ℕ) (k n : ℕ) {r i : ℕ} (q : i ≡ r) (u : ((r ≡ k) × (k ≤ n)) ⊎ ((r ≡ n) × (n ≤ k))) where
+  least : r ≡ min k n
+  least = ⊎_elim (λ w. omega (arith, w.0, w.1)) (λ w. omega (arith, w.0, w.1)) u
+
+  written_same : past_table s + 4 ≤ n → written_at s card work r ≡ written_at s card work k
+  written_same h = written-within s card work k r n h least
+
+  counted_same : (b : Bool) → past_table s + 4 ≤ n → counted_at b s card work r ≡ counted_at b s card work k
+  unfolding counted_at
+  counted_same true h = refl
+  counted_same false h = written_same h
+
+  down-short : past_table s + 5 ≤ n → length (all_down s work) ≤ n
+  unfolding all_down
+  down-short h = omega (arith, h, unmount-length s.worn s work)
+
+  pub down_to : {f : List ℕ} {w : ℕ} → past_table s + 5 ≤ n → (f ≡ apply_steps (take i (all_down s work)) card) × (w ≡ counted_at s.worn s card work i)
+      → (f ≡ apply_steps (take (down_at s card work k) (unmount_steps s card work)) card) × (w ≡ counted_at s.worn s card work k)
+  down_to h (a, b) =
+      let p = first-places (all_down s work) k n (down-short h) least in
+      (down-at s card work k (a ∙ ap (λ (j : ℕ). apply_steps (take j (all_down s work)) card) q ∙ ap (λ (l : List Step). apply_steps l card) p), b ∙ ap (λ (j : ℕ). counted_at s.worn s card work j) q ∙ counted_same s.worn (omega (arith, h)))
 
 -- ---- the steps at the first k places, and all of them
 

@@ -1,9 +1,6 @@
 -- The loop's invariant: what is left to write makes the pages of all pairs. Assumes nothing.
-use mathlib.Core.Path.{◌≡◌, refl}
-use Prim.Native.Nat.{◌-◌}
 use native.Mathlib.Omega.{arith}
 use borrow.Author.Rules.{rules}
-use Rattle.counts.specs.Geometry.{g_p}
 use Rattle.counts.proofs.TableLaws.{dir-is}
 use Rattle.card.proofs.MakeLaws.{fresh-turn, fresh-end}
 use Rattle.card_fresh.proofs.fresh_pages.Goals as goal
