@@ -17,6 +17,7 @@ use entries::Run;
 use sectors::Sector;
 
 // A group under the session's own stamp: "when alive, A and B trade places".
+#[tactic(auto, unfolding(apages::specs::Index::changed_index, counts::specs::Stamps::becomes_old))]
 fn changed_index(st: Standing, own: Stamp, x: Index) -> Index
     ensures { result ≡ changed_index st own x }
 {

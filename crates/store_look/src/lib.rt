@@ -74,8 +74,7 @@ pub fn line_fitting(session: Session, work: &[u8], i: u32) -> Result<Option<Line
 pub fn line(session: Session, work: &[u8], i: u32) -> Result<Option<Line>, Refusal>
     ensures { lined_of result ≡ line session work.now i }
 {
-    judged(session, work)?;
-    line_fitting(session, work, i)
+    judged(session, work).and_then(|()| line_fitting(session, work, i))
 }
 
 // Get in a session that fits: every test of get but 2, in its order
