@@ -46,17 +46,16 @@ fn data_to(g: Geo, p: u32) -> usize
     (g.s - 4096 * p).min(4096) as usize
 }
 
-// Page p with its bits below F and from S up set.
-fn fresh_page(g: Geo, p: u32) -> [u8; 512]
+// Page p with its bits below F and from S up set, in the bytes that are lent.
+fn fresh_page(g: Geo, p: u32, page: &mut [u8; 512])
     requires { InLimits g × (p < g_p g) }
-    ensures { result ≡ fresh_page g p }
+    ensures { page.new ≡ fresh_page g p }
 {
     let f = data_from(g, p);
     let s = data_to(g, p);
-    let mut page = [0u8; 512];
-    apages::set_run(&mut page, 0, f, true);
-    apages::set_run(&mut page, s, 4096 - s, true);
-    page
+    page.fill(0);
+    apages::set_run(page, 0, f, true);
+    apages::set_run(page, s, 4096 - s, true)
 }
 
 // Group p of a fresh index: the words 0, 0 and the two sectors of its pair.
@@ -93,8 +92,9 @@ fn fresh_pages(g: Geo, card: &mut [u8])
     requires { LaidOut g card.old }
     ensures { card.new ≡ fresh_pages g 0 (g_p g) card.old }
 {
+    let mut page = [0; 512];
     for p in 0..counts::pairs(g) {
-        let page = fresh_page(g, p);
+        fresh_page(g, p, &mut page);
         let (a, b) = counts::pair(g, p);
         sectors::write_sector(card, a, &page);
         sectors::write_sector(card, b, &page);

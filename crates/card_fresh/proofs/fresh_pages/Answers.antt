@@ -16,7 +16,7 @@ write_sector-requires-in-loop-p c =
 pub loop-p-preserved : goal.loop-p-preserved
 loop-p-preserved c =
     let l = c.loop-p in
-    (fresh-turn _ _ _ (omega arith) l.invariant.0 c.fresh_page-page.ensures (rw c.pair.ensures.low at c.write_sector.ensures) (rw c.pair.ensures.high at c.write_sector-in-loop-p.ensures), omega (arith, c.write_sector.auto.card, c.write_sector-in-loop-p.auto.card))
+    (fresh-turn _ _ _ (omega arith) l.invariant.0 c.fresh_page.ensures (rw c.pair.ensures.low at c.write_sector.ensures) (rw c.pair.ensures.high at c.write_sector-in-loop-p.ensures), omega (arith, c.write_sector.auto.card, c.write_sector-in-loop-p.auto.card))
 
 pub returns : goal.returns
 returns c = fresh-end _ _ (omega arith) c.loop-p.invariant.0
