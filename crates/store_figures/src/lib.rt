@@ -11,7 +11,7 @@ ghost use Rattle.apages.specs.Inner.{PairIn};
 use card_files::page_at;
 use counts::{Image, View};
 use sectors::sector_at;
-use store::Figures;
+pub use store::Figures;
 
 // Both figures of two pages, from the ones of their words: free has a bit in neither, waiting in the second alone.
 fn count(p: &[u8], q: &[u8]) -> Figures

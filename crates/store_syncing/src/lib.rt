@@ -11,7 +11,7 @@ ghost use Rattle.store.specs.Inner.{counts_at, CanSync};
 use counts::{CrashCount, TxCount};
 use sectors::Sector;
 use session::Opened;
-use store::Synced;
+pub use store::Synced;
 
 // ---- sync
 

@@ -12,4 +12,4 @@ pub invariant_of-image : goal.invariant_of-image
 invariant_of-image c = record { laid = fit-laid _ _ (open-fits _ c.in_ok-s.ensures.ok_part c.requires) }
 
 pub returns : goal.returns
-returns c = line-done _ _ c.in_ok-s.ensures.ok_part (open-fits _ c.in_ok-s.ensures.ok_part c.requires) c.present_view-present.ensures _ c.line_in.ensures
+returns c = line-done _ _ c.in_ok-s.ensures.ok_part (open-fits _ c.in_ok-s.ensures.ok_part c.requires) c.present_view-present.ensures _ (search rules)
